@@ -1,0 +1,13 @@
+pub mod First
+pub mod Limits
+pub mod Meaning
+pub mod Interval
+pub mod Layer
+pub mod Cores
+pub mod Even
+pub mod Calendar
+pub mod Reserve
+pub mod Cooldown
+pub mod Refusals
+pub mod Examples
+pub mod Laws

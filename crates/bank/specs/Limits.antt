@@ -1,0 +1,11 @@
+-- Numbers with a least and a greatest value.
+use mathlib.Core.Bool.{Bool, _&&_}
+use Prim.Native.Nat.{ℕ, min, max}
+use lib.Dec.{leb}
+
+abbrev pub in-limits : ℕ → ℕ → ℕ → Bool
+in-limits low high n = leb low n && leb n high
+
+-- n where it lies in the limits, else the limit that is nearer
+abbrev pub nearest : ℕ → ℕ → ℕ → ℕ
+nearest low high n = max low (min n high)

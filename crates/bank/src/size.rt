@@ -1,0 +1,48 @@
+// How long a bank lasts, and how many cores it has.
+ghost use mathlib.Core.Path.{_≡_};
+ghost use mathlib.Core.Bool.{cond, _&&_};
+ghost use Prim.Native.Nat.{_≤_};
+ghost use lib.Dec.{leb, ltb};
+ghost use Rattle.std.specs.declared.option.Option.the-variants.{Some, None};
+ghost use Rattle.bank.specs.Limits.{in-limits, nearest};
+ghost use Rattle.bank.specs.Refusals.{refusal-of};
+use crate::refusal::Refusal;
+
+// The number of slots and the top level of a bank.
+#[derive(Clone, Copy)]
+pub(crate) struct Size {
+    pub(crate) slots: u32,
+    pub(crate) top: u32,
+    ghost slots_fit: { (1 ≤ slots) × (slots ≤ 4096) },
+    ghost top_fit: { (1 ≤ top) × (top ≤ 64) },
+}
+
+impl Size {
+    // A number outside its limits is taken as the nearest limit.
+    pub(crate) fn new(slots: u32, top: u32) -> Size
+        ensures slots { λ r. ⌜ r .slots ≡ nearest 1 4096 slots ⌝ }
+        ensures top { λ r. ⌜ r .top ≡ nearest 1 64 top ⌝ }
+    {
+        Size {
+            slots: slots.clamp(1, 4096),
+            top: top.clamp(1, 64),
+        }
+    }
+
+    // Whether the bank has the level and the slot.
+    pub(crate) fn has(&self, level: u32, slot: u32) -> bool
+        ensures { λ r. ⌜ r ≡ (leb level (now (self .entry) .top) && ltb slot (now (self .entry) .slots)) ⌝ }
+    {
+        level <= self.top && slot < self.slots
+    }
+}
+
+// Refuses a number of slots outside 1 to 4,096, or a top level outside 1 to 64, for an even bank or a calendar.
+pub fn check_size(slots: u32, top: u32) -> Result<(), Refusal>
+    ensures { λ r. ⌜ refusal-of r ≡ cond (in-limits 1 4096 slots && in-limits 1 64 top) None (Some 16) ⌝ }
+{
+    if slots < 1 || slots > 4096 || top < 1 || top > 64 {
+        return Err(Refusal::OutOfLimits);
+    }
+    Ok(())
+}
