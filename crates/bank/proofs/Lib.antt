@@ -1,9 +1,5 @@
 pub mod Firsts
 pub mod Spans
 pub mod Filled
-pub mod Words
 pub mod Tables
-pub mod Calendars
 pub mod Layers
-pub mod Cycles
-pub mod Worked

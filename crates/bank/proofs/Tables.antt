@@ -1,4 +1,4 @@
--- Lists of spans: what holds of some or of all.
+-- Lists: what some or all elements pass, and loops over them.
 use mathlib.Core.Path.{_≡_, refl, sym, ap, subst, _∙_}
 use mathlib.Core.Logic.{⊎-elim}
 use mathlib.Core.Bool.{Bool, true, false, cond, _&&_, _||_}
@@ -16,8 +16,6 @@ use Rattle.std.proofs.shelf.Ways.{tells}
 use Rattle.bank.specs.Interval.{within, edge-of, any-by, all-by}
 use Rattle.bank.specs.First.{first-above}
 use Rattle.bank.proofs.Firsts.{first-or, first-same}
-use Rattle.bank.specs.Reserve.{held, withheld, window-edge, window-fits, table-fits, clamped}
-use Rattle.bank.specs.declared.window.Window.{Window}
 
 or-assoc : (a b c : Bool) → ((a || b) || c) ≡ (a || (b || c))
 or-assoc true b c = refl
@@ -68,20 +66,6 @@ all-by-set p (y ∷ ys) (suc i) x h k =
 pub all-by-map : {X : Type 0} (p : X → Bool) (f : X → X) → ((x : X) → p (f x) ≡ true) → (xs : List X) → all-by p (map f xs) ≡ true
 all-by-map p f h [] = refl
 all-by-map p f h (x ∷ xs) = and-from (p (f x)) (all-by p (map f xs)) (h x) (all-by-map p f h xs)
-
-pub clamped-fits : (w : Window) → window-fits (clamped w) ≡ true
-clamped-fits w = grind (arith, tells)
-
--- each window of a table withholds at most 64 cores
-pub count-fits : (ws : List Window) (i : ℕ) (d : Window) → table-fits ws ≡ true → i < length ws → getD ws i d .count ≤ 64
-count-fits ws i d h k =
-    let w = getD ws i d in
-    leb-true (w .count) 64 (and-parts (leb (w .from) 4096 && leb (w .to) 4096) (leb (w .count) 64) (all-by-at window-fits ws i d h k) .1)
-
-pub held-fits : (ws : List Window) (i : ℕ) (d : Window) (t : ℕ) → table-fits ws ≡ true → i < length ws → held t (getD ws i d) ≤ 64
-held-fits ws i d t h k =
-    let w = getD ws i d in
-    cond-both (within (w .from) (w .to) t) (w .count) 0 (λ x. x ≤ 64) (λ e. count-fits ws i d h k) (λ e. omega arith)
 
 -- the first number that passes for one of the elements so far, and for one more
 pub first-any-more : {X : Type 0} (p : ℕ → X → Bool) (xs : List X) (i : ℕ) (d : X) (end t : ℕ) → i < length xs →

@@ -3,11 +3,6 @@ pub mod Limits
 pub mod Meaning
 pub mod Interval
 pub mod Layer
-pub mod Cores
 pub mod Even
-pub mod Calendar
-pub mod Reserve
-pub mod Cooldown
 pub mod Refusals
-pub mod Examples
 pub mod Laws

@@ -2,19 +2,10 @@
 ghost use mathlib.Core.Path.{_≡_};
 ghost use Rattle.bank.specs.Meaning.{Meaning, Rules, capacities-at, mark-after, Steady};
 
-pub mod calendar;
-pub mod cooldown;
 pub mod even;
-pub mod examples;
-mod interval;
-mod levels;
-pub mod outage;
+pub mod interval;
 pub mod refusal;
-pub mod reserve;
 pub mod size;
-mod table;
-pub mod window;
-mod word;
 
 // What every kind of bank answers, for any numbers. A slot is the unit of time, counted from 0. At level k the cores 0
 // to k - 1 are powered. A lane is a place among the usable cores, counted from 0.

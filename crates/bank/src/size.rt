@@ -10,16 +10,16 @@ use crate::refusal::Refusal;
 
 // The number of slots and the top level of a bank.
 #[derive(Clone, Copy)]
-pub(crate) struct Size {
-    pub(crate) slots: u32,
-    pub(crate) top: u32,
+pub struct Size {
+    pub slots: u32,
+    pub top: u32,
     ghost slots_fit: { (1 ≤ slots) × (slots ≤ 4096) },
     ghost top_fit: { (1 ≤ top) × (top ≤ 64) },
 }
 
 impl Size {
     // A number outside its limits is taken as the nearest limit.
-    pub(crate) fn new(slots: u32, top: u32) -> Size
+    pub fn new(slots: u32, top: u32) -> Size
         ensures slots { λ r. ⌜ r .slots ≡ nearest 1 4096 slots ⌝ }
         ensures top { λ r. ⌜ r .top ≡ nearest 1 64 top ⌝ }
     {
@@ -30,7 +30,7 @@ impl Size {
     }
 
     // Whether the bank has the level and the slot.
-    pub(crate) fn has(&self, level: u32, slot: u32) -> bool
+    pub fn has(&self, level: u32, slot: u32) -> bool
         ensures { λ r. ⌜ r ≡ (leb level (now (self .entry) .top) && ltb slot (now (self .entry) .slots)) ⌝ }
     {
         level <= self.top && slot < self.slots

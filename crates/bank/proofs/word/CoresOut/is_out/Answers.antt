@@ -1,8 +1,0 @@
-use mathlib.Core.Path.{ap}
-use Prim.Native.Nat.{_/_, _^_}
-use lib.Dec.{eqb}
-use Rattle.std.proofs.shelf.Bits.{and-mask}
-use Rattle.bank.proofs.word.CoresOut.is_out.Needs as need
-
-pub returns : need.returns
-returns c = ap (λ n. eqb n 1) (and-mask (c .args .self .word / 2 ^ c .args .core) 1)

@@ -1,0 +1,8 @@
+use Rattle.bank.specs.Interval.{within}
+use Rattle.calendar.proofs.Calendars.{row-bit}
+use Rattle.calendar.proofs.Outage.bit_at.Needs as need
+
+pub returns-then-covers : need.returns-then-covers
+returns-then-covers c core h =
+    let o = c .args .self .now in
+    row-bit (o .core) core (within (o .from) (o .to) (c .args .slot)) (c .if-self-lt64 .taken) (c .if-covers .ensures tt)

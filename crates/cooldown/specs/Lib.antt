@@ -1,0 +1,2 @@
+pub mod Cooldown
+pub mod Laws

@@ -1,0 +1,2 @@
+pub mod Reserve
+pub mod Laws
