@@ -48,7 +48,7 @@ up-to-more f size n v xs h e filled = (length-set xs (n + 1) v ∙ filled .0, λ
         ap (λ b. cond b (f k) 0) (leb-same k n k (n + 1) (λ a. omega arith) (λ a. grind arith))
 
 -- two functions that agree have the same values
-pub counted-same : (f g : ℕ → ℕ) (a n : ℕ) → ((k : ℕ) → k < a + n → f k ≡ g k) → map f (counting a n) ≡ map g (counting a n)
+pub counted-same : {X : Type 0} (f g : ℕ → X) (a n : ℕ) → ((k : ℕ) → k < a + n → f k ≡ g k) → map f (counting a n) ≡ map g (counting a n)
 counted-same f g a zero same = refl
 counted-same f g a (suc n) same = rw (same a (omega arith), counted-same f g (a + 1) n (λ k h. same k (omega arith)))
 

@@ -3,3 +3,4 @@ pub mod Spans
 pub mod Filled
 pub mod Tables
 pub mod Layers
+pub mod Rising
