@@ -30,21 +30,29 @@ pub trait Bank {
 
     // The capacities at the levels 0 to 64 in a slot, asked at once.
     fn capacities(&self, slot: u32) -> [u32; 65]
-        ensures { λ r. ⌜ r ≡ capacities-at (means (now (self .entry))) slot ⌝ }
-    {
-        let mut all = [0; 65];
-        for level in 0..65u32 {
-            all[level as usize] = self.capacity(level, slot);
-        }
-        all
-    }
+        ensures { λ r. ⌜ r ≡ capacities-at (means (now (self .entry))) slot ⌝ };
 
     // The core of a lane at a level in a slot: there is one for each lane below the capacity.
     fn core(&self, level: u32, slot: u32, lane: u32) -> Option<u32>
         ensures { λ r. ⌜ r ≡ means (now (self .entry)) .core level slot lane ⌝ };
 
-    // The first mark after a slot, or the number of slots. Up to there every capacity and core stays as it is.
+    // The first mark after a slot, or the number of slots.
     fn mark_after(&self, slot: u32) -> u32
-        ensures first { λ r. ⌜ r ≡ mark-after (means (now (self .entry))) slot ⌝ }
-        ensures steady { λ r. ⌜ Steady (means (now (self .entry))) slot r ⌝ };
+        ensures { λ r. ⌜ r ≡ mark-after (means (now (self .entry))) slot ⌝ };
+}
+
+// The end of the span that begins in a slot: the first mark after it, or the number of slots. Up to there every capacity
+// and every core stays as it is.
+pub fn span_end<B: Bank>(cores: &B, slot: u32) -> u32
+    ensures first { λ r. ⌜ r ≡ mark-after (B·Bank .means (now (cores .entry))) slot ⌝ }
+    ensures steady { λ r. ⌜ Steady (B·Bank .means (now (cores .entry))) slot r ⌝ }
+{
+    steady_to(cores, slot)
+}
+
+fn steady_to<B: Bank>(cores: &B, slot: u32) -> u32
+    ensures first { λ r. ⌜ r ≡ mark-after (B·Bank .means (now (cores .entry))) slot ⌝ }
+    ensures steady { λ r. ⌜ Steady (B·Bank .means (now (cores .entry))) slot r ⌝ }
+{
+    cores.mark_after(slot)
 }

@@ -1,8 +1,9 @@
 // What the map tells of one span of slots.
 ghost use mathlib.Core.Path.{_≡_};
-ghost use Rattle.bank.specs.Meaning.{mark-after};
+ghost use Rattle.bank.specs.Meaning.{mark-after, Steady};
 ghost use Rattle.bankmap.specs.Survey.{core-states, Fewest-level, with-state};
 use bank::Bank;
+use bank::span_end;
 
 // How a core stands in a slot: usable, kept back by a layer, or out of service.
 #[derive(Clone, Copy)]
@@ -37,13 +38,14 @@ pub struct Span {
 pub fn span_from<A: Bank, B: Bank>(bottom: &A, pile: &B, from: u32) -> Span
     ensures from { λ r. ⌜ r .from ≡ from ⌝ }
     ensures to { λ r. ⌜ r .to ≡ mark-after (B·Bank .means (now (pile .entry))) from ⌝ }
+    ensures steady { λ r. ⌜ Steady (B·Bank .means (now (pile .entry))) from (r .to) ⌝ }
     ensures capacity { λ r. ⌜ r .capacity ≡ B·Bank .means (now (pile .entry)) .capacity (B·Bank .means (now (pile .entry)) .top) from ⌝ }
     ensures level { λ r. ⌜ Fewest-level (B·Bank .means (now (pile .entry))) from (r .level) ⌝ }
     ensures cores { λ r. ⌜ r .cores ≡ core-states (A·Bank .means (now (bottom .entry))) (B·Bank .means (now (pile .entry))) from ⌝ }
 {
     Span {
         from,
-        to: pile.mark_after(from),
+        to: span_end(pile, from),
         capacity: pile.capacity(pile.top(), from),
         level: fewest_level(pile, from),
         cores: core_states(bottom, pile, from),

@@ -25,11 +25,13 @@ Marks-are m a b = (mark-after m 0 ≡ a) × (mark-after m a ≡ b) × (mark-afte
 abbrev pub one-outage : Meaning
 one-outage = calendar (outage-row 0 2 4 ∷ []) 6 3
 
+-- two windows in use, and six that are not
+abbrev pub two-window-rows : List Window
+two-window-rows = let unused = window-row 0 0 0 in window-row 0 4 1 ∷ window-row 2 6 2 ∷ unused ∷ unused ∷ unused ∷ unused ∷ unused ∷ unused ∷ []
+
 -- six slots and four cores: one withheld in slots 0 to 3, two in slots 2 to 5
 abbrev pub two-windows : Meaning
-two-windows =
-    let unused = window-row 0 0 0 in
-    reserve (window-row 0 4 1 ∷ window-row 2 6 2 ∷ unused ∷ unused ∷ unused ∷ unused ∷ unused ∷ unused ∷ []) (even 6 4)
+two-windows = reserve two-window-rows (even 6 4)
 
 -- six slots and two cores, but one in the last of every four slots
 abbrev pub every-fourth-slot : Meaning

@@ -9,6 +9,7 @@ ghost use Rattle.cooldown.specs.Cooldown.{cool-down, rest-edge, resting};
 ghost use Rattle.bank.specs.First.{first-above};
 ghost use Rattle.cooldown.specs.Laws.Cooldowns.{cool-down-rules};
 ghost use Rattle.bank.specs.Limits.{in-limits, nearest};
+ghost use Rattle.bank.specs.Meaning.{mark-after};
 ghost use Rattle.bank.specs.Refusals.{refusal-of};
 use bank::Bank;
 use bank::refusal::Refusal;
@@ -105,6 +106,15 @@ impl<B: Bank> CoolDown<B> {
             limit: limit.min(64),
         }
     }
+
+    // The first mark below or begin or end of a rest after a slot, or the number of slots.
+    fn next_mark(&self, slot: u32) -> u32
+        ensures { λ r. ⌜ r ≡ mark-after (cool-down (now (self .entry) .cycle .period) (now (self .entry) .cycle .rest) (now (self .entry) .limit) (B·Bank .means (now (self .entry) .below))) slot ⌝ }
+    {
+        self.below
+            .mark_after(slot)
+            .min(self.cycle.edge_after(slot, self.below.slots()))
+    }
 }
 
 pub impl<B: Bank> Bank for CoolDown<B> as CoolDownBank {
@@ -147,8 +157,6 @@ pub impl<B: Bank> Bank for CoolDown<B> as CoolDownBank {
     }
 
     fn mark_after(&self, slot: u32) -> u32 {
-        self.below
-            .mark_after(slot)
-            .min(self.cycle.edge_after(slot, self.below.slots()))
+        self.next_mark(slot)
     }
 }

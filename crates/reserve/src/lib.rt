@@ -6,13 +6,13 @@ ghost use Prim.Native.Nat.{_≤_, _-_};
 ghost use Rattle.std.specs.declared.option.Option.the-variants.{Some, None};
 ghost use Rattle.bank.specs.First.{first-above};
 ghost use Rattle.bank.specs.Interval.{any-by};
+ghost use Rattle.bank.specs.Meaning.{mark-after};
 ghost use Rattle.reserve.specs.Laws.Reserves.{reserve-rules};
 ghost use Rattle.bank.specs.Refusals.{refusal-of};
 ghost use Rattle.reserve.specs.Reserve.{clamped, held, reserve, settable, table-fits, window-edge, window-fits, with-window, withheld};
 use crate::table::WindowTable;
 use bank::Bank;
-use bank::interval::covers;
-use bank::interval::edge_after;
+use bank::interval::Interval;
 use bank::refusal::Refusal;
 
 mod table;
@@ -26,6 +26,15 @@ pub struct Window {
 }
 
 impl Window {
+    fn interval(&self) -> Interval
+        ensures { λ r. ⌜ r ≡ record { from = now (self .entry) .from; to = now (self .entry) .to } ⌝ }
+    {
+        Interval {
+            from: self.from,
+            to: self.to,
+        }
+    }
+
     // Whether each number is in its limits.
     fn fits(&self) -> bool
         ensures { λ r. ⌜ r ≡ window-fits (now (self .entry)) ⌝ }
@@ -48,7 +57,7 @@ impl Window {
     fn held(&self, slot: u32) -> u32
         ensures { λ r. ⌜ r ≡ held slot (now (self .entry)) ⌝ }
     {
-        if covers(self.from, self.to, slot) {
+        if self.interval().covers(slot) {
             self.count
         } else {
             0
@@ -59,7 +68,7 @@ impl Window {
     fn edge_after(&self, slot: u32, limit: u32) -> u32
         ensures { λ r. ⌜ r ≡ first-above (λ t. window-edge t (now (self .entry))) limit slot ⌝ }
     {
-        edge_after(self.from, self.to, slot, limit)
+        self.interval().edge_after(slot, limit)
     }
 }
 
@@ -67,12 +76,22 @@ impl Window {
 pub fn check_windows(windows: &[Window; 8]) -> Result<(), Refusal>
     ensures { λ r. ⌜ refusal-of r ≡ cond (table-fits (now (windows .entry))) None (Some 16) ⌝ }
 {
-    for w in windows {
-        if !w.fits() {
-            return Err(Refusal::OutOfLimits);
-        }
+    if !all_fit(windows) {
+        return Err(Refusal::OutOfLimits);
     }
     Ok(())
+}
+
+// Whether each number of each window is in its limits.
+fn all_fit(windows: &[Window; 8]) -> bool
+    ensures { λ r. ⌜ r ≡ table-fits (now (windows .entry)) ⌝ }
+{
+    for w in windows {
+        if !w.fits() {
+            return false;
+        }
+    }
+    true
 }
 
 impl WindowTable {
@@ -162,6 +181,15 @@ impl<B: Bank> HostReserve<B> {
     {
         self.table.set(place, window)
     }
+
+    // The first mark below or end of a window after a slot, or the number of slots.
+    fn next_mark(&self, slot: u32) -> u32
+        ensures { λ r. ⌜ r ≡ mark-after (reserve (now (self .entry) .table .rows) (B·Bank .means (now (self .entry) .below))) slot ⌝ }
+    {
+        self.below
+            .mark_after(slot)
+            .min(self.table.edge_after(slot, self.below.slots()))
+    }
 }
 
 pub impl<B: Bank> Bank for HostReserve<B> as HostReserveBank {
@@ -196,8 +224,6 @@ pub impl<B: Bank> Bank for HostReserve<B> as HostReserveBank {
     }
 
     fn mark_after(&self, slot: u32) -> u32 {
-        self.below
-            .mark_after(slot)
-            .min(self.table.edge_after(slot, self.below.slots()))
+        self.next_mark(slot)
     }
 }
