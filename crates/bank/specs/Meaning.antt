@@ -40,7 +40,7 @@ pub record Rules (m : Meaning) : Type 0 where
   -- different lanes have different cores, and each is powered
   pub distinct : (k t i j c : ℕ) → m .core k t i ≡ Some c → m .core k t j ≡ Some c → i ≡ j
   pub powered : (k t i c : ℕ) → m .core k t i ≡ Some c → c < k
-  -- marks lie between the first slot and the end
+  -- marks lie in 1 to slots - 1
   pub marks-least : m .marked 0 ≡ false
   pub marks-most : (t : ℕ) → m .slots ≤ t → m .marked t ≡ false
   -- at an unmarked slot everything is as in the slot before

@@ -24,7 +24,7 @@ pub trait Bank {
     fn top(&self) -> u32
         ensures { λ r. ⌜ r ≡ means (now (self .entry)) .top ⌝ };
 
-    // The number of usable cores at a level in a slot: 0 above the top level, and at or past the last slot's end.
+    // The number of usable cores at a level in a slot: 0 above the top level, and at or past the number of slots.
     fn capacity(&self, level: u32, slot: u32) -> u32
         ensures { λ r. ⌜ r ≡ means (now (self .entry)) .capacity level slot ⌝ };
 

@@ -2,7 +2,7 @@
 ghost use mathlib.Core.Path.{_≡_};
 ghost use Rattle.bank.specs.Refusals.{refusal-number};
 
-#[derive(Clone, Copy, PartialEq, Eq, Debug)]
+#[derive(Clone, Copy, Debug)]
 pub enum Refusal {
     // A slot is open.
     SlotOpen = 1,
@@ -24,7 +24,7 @@ pub enum Refusal {
     TooFewCores = 9,
     // No live job has this number.
     NoSuchJob = 10,
-    // The clock is at or past the bank's last slot's end.
+    // The clock is at or past the bank's number of slots.
     PastLastSlot = 11,
     // The slip's name or slot is not the book's, or no slot is open.
     WrongSlip = 12,

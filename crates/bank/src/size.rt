@@ -2,11 +2,16 @@
 ghost use mathlib.Core.Path.{_≡_};
 ghost use mathlib.Core.Bool.{cond, _&&_};
 ghost use Prim.Native.Nat.{_≤_};
-ghost use lib.Dec.{leb, ltb};
 ghost use Rattle.std.specs.declared.option.Option.the-variants.{Some, None};
-ghost use Rattle.bank.specs.Limits.{in-limits, nearest};
+ghost use Rattle.bank.specs.Limits.{in-bank, in-limits, nearest};
 ghost use Rattle.bank.specs.Refusals.{refusal-of};
 use crate::refusal::Refusal;
+
+// The most slots that a bank has.
+pub const MAX_SLOTS: u32 = 4096;
+
+// The most cores that a bank has, which is the highest top level.
+pub const MAX_LEVEL: u32 = 64;
 
 // The number of slots and the top level of a bank.
 #[derive(Clone, Copy)]
@@ -24,14 +29,14 @@ impl Size {
         ensures top { λ r. ⌜ r .top ≡ nearest 1 64 top ⌝ }
     {
         Size {
-            slots: slots.clamp(1, 4096),
-            top: top.clamp(1, 64),
+            slots: slots.clamp(1, MAX_SLOTS),
+            top: top.clamp(1, MAX_LEVEL),
         }
     }
 
     // Whether the bank has the level and the slot.
     pub fn has(&self, level: u32, slot: u32) -> bool
-        ensures { λ r. ⌜ r ≡ (leb level (now (self .entry) .top) && ltb slot (now (self .entry) .slots)) ⌝ }
+        ensures { λ r. ⌜ r ≡ in-bank (now (self .entry) .slots) (now (self .entry) .top) level slot ⌝ }
     {
         level <= self.top && slot < self.slots
     }
@@ -41,7 +46,7 @@ impl Size {
 pub fn check_size(slots: u32, top: u32) -> Result<(), Refusal>
     ensures { λ r. ⌜ refusal-of r ≡ cond (in-limits 1 4096 slots && in-limits 1 64 top) None (Some 16) ⌝ }
 {
-    if slots < 1 || slots > 4096 || top < 1 || top > 64 {
+    if slots < 1 || slots > MAX_SLOTS || top < 1 || top > MAX_LEVEL {
         return Err(Refusal::OutOfLimits);
     }
     Ok(())

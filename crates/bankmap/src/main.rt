@@ -6,10 +6,12 @@ use crate::survey::span_from;
 use bank::Bank;
 use calendar::Calendar;
 use calendar::CalendarBank;
+use calendar::Outage;
 use cooldown::CoolDown;
 use cooldown::CoolDownBank;
 use reserve::HostReserve;
 use reserve::HostReserveBank;
+use reserve::Window;
 use std::alloc::AllocError;
 use std::alloc::Global;
 use std::error::AnyError;
@@ -17,28 +19,40 @@ use std::error::AnyError;
 mod site;
 mod survey;
 
-// The numbers in force: slots, cores, and every limit that stands on them.
-fn print_limits(rt: &impl Print, site: &Site) -> Result<(), AnyError> {
-    let slots = site.slots;
-    let top = site.top;
-    println!(rt, "slots {slots}, cores {top}")?;
-    for o in &site.outages {
+// The outages, by row.
+fn print_outages(rt: &impl Print, outages: &[Outage]) -> Result<(), AnyError> {
+    for o in outages {
         let core = o.core;
         let from = o.from;
         let to = o.to;
         println!(rt, "outage: core {core} out from slot {from} to {to}")?;
     }
-    for w in &site.windows {
-        let count = w.count;
+    Ok(())
+}
+
+// The windows in use, by place. Unused windows are all 0.
+fn print_windows(rt: &impl Print, windows: &[Window; 8]) -> Result<(), AnyError> {
+    for (place, w) in windows.iter().enumerate() {
         let from = w.from;
         let to = w.to;
-        if count > 0 {
+        let count = w.count;
+        if from > 0 || to > 0 || count > 0 {
             println!(
                 rt,
-                "host reserve: {count} withheld from slot {from} to {to}"
+                "host reserve, window {place}: {count} withheld from slot {from} to {to}"
             )?;
         }
     }
+    Ok(())
+}
+
+// The numbers in force: the bank's slots and cores, and every limit that stands on them.
+fn print_limits<B: Bank>(rt: &impl Print, site: &Site, pile: &B) -> Result<(), AnyError> {
+    let slots = pile.slots();
+    let top = pile.top();
+    println!(rt, "slots {slots}, cores {top}")?;
+    print_outages(rt, site.outages.as_slice())?;
+    print_windows(rt, &site.windows)?;
     let period = site.cool_down.period;
     let rest = site.cool_down.rest;
     let limit = site.cool_down.limit;
@@ -93,11 +107,11 @@ fn print_spans<A: Bank, B: Bank>(
 
 fn run(rt: &LibcRuntime) -> Result<(), AnyError> {
     let site = Site::sample(rt.alloc())?;
-    print_limits(rt, &site)?;
     let calendar = Calendar::new(site.outages.as_slice(), site.slots, site.top);
     let reserve = HostReserve::new(calendar, site.windows);
     let cool_down = site.cool_down;
     let pile = CoolDown::new(reserve, cool_down.period, cool_down.rest, cool_down.limit);
+    print_limits(rt, &site, &pile)?;
     print_spans(rt, &calendar, &pile)
 }
 

@@ -7,14 +7,14 @@ use std::fmt;
 
 // The last `rest` slots of every `period` slots have at most `limit` cores.
 #[derive(Clone, Copy)]
-pub struct CoolDownNumbers {
+pub(crate) struct CoolDownNumbers {
     pub period: u32,
     pub rest: u32,
     pub limit: u32,
 }
 
 #[derive(Drop)]
-pub struct Site {
+pub(crate) struct Site {
     pub slots: u32,
     pub top: u32,
     pub outages: Vec<Outage>,
@@ -24,7 +24,7 @@ pub struct Site {
 
 impl Site {
     // A sample: two cores fail, the host reserves cores twice, and the cores cool down at the end of every eight slots.
-    pub fn sample(heap: Global) -> Result<Site, AllocError> {
+    pub(crate) fn sample(heap: Global) -> Result<Site, AllocError> {
         let unused = Window {
             from: 0,
             to: 0,

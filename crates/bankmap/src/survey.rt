@@ -7,7 +7,7 @@ use bank::span_end;
 
 // How a core stands in a slot: usable, kept back by a layer, or out of service.
 #[derive(Clone, Copy)]
-pub enum CoreState {
+pub(crate) enum CoreState {
     Usable,
     Withheld,
     Out,
@@ -15,7 +15,7 @@ pub enum CoreState {
 
 impl CoreState {
     // The character that stands for it in the map.
-    pub fn symbol(self) -> char {
+    pub(crate) fn symbol(self) -> char {
         match self {
             CoreState::Usable => '#',
             CoreState::Withheld => '-',
@@ -26,7 +26,7 @@ impl CoreState {
 
 // A span of slots, from ≤ t < to, in which nothing changes.
 #[derive(Clone, Copy)]
-pub struct Span {
+pub(crate) struct Span {
     pub from: u32,
     pub to: u32,
     pub capacity: u32,
@@ -35,7 +35,7 @@ pub struct Span {
 }
 
 // The span that begins in a slot, of a pile of layers over a bank.
-pub fn span_from<A: Bank, B: Bank>(bottom: &A, pile: &B, from: u32) -> Span
+pub(crate) fn span_from<A: Bank, B: Bank>(bottom: &A, pile: &B, from: u32) -> Span
     ensures from { λ r. ⌜ r .from ≡ from ⌝ }
     ensures to { λ r. ⌜ r .to ≡ mark-after (B·Bank .means (now (pile .entry))) from ⌝ }
     ensures steady { λ r. ⌜ Steady (B·Bank .means (now (pile .entry))) from (r .to) ⌝ }

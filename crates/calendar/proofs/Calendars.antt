@@ -11,7 +11,7 @@ use lib.ListN.{length, take, getD, replicate}
 use Rattle.std.specs.Iters.{counting}
 use Rattle.std.proofs.shelf.Bits.{one-shl}
 use Rattle.std.proofs.shelf.Tests.{cases-bool, cond-true, cond-false, and-parts, and-left, and-right, leb-true, le-leb, lt-ltb, le-ltb}
-use Rattle.calendar.specs.Calendar.{takes-out, out, cores, outage-edge, calendar}
+use Rattle.calendar.specs.Calendar.{takes-out, out, usable-at, outage-edge, calendar}
 use Rattle.calendar.specs.Cores.{bit, usable}
 use Rattle.bank.specs.First.{first-above}
 use Rattle.bank.specs.Interval.{any-by}
@@ -47,23 +47,23 @@ module _ (rows : List Outage) (slots top t w : ℕ) (few : top ≤ 64) (same : (
   word-usable k h = usable-same (bit w) (out rows t) k (λ c l. same c (omega arith))
 
   -- where the bank has the level and the slot
-  pub word-cores : (k : ℕ) → true ≡ (leb k top && ltb t slots) → usable (bit w) k ≡ cores rows slots top k t
+  pub word-cores : (k : ℕ) → true ≡ (leb k top && ltb t slots) → usable (bit w) k ≡ usable-at rows slots top k t
   word-cores k inside =
       let (a, b) = and-parts (leb k top) (ltb t slots) (sym inside) in
       word-usable k (leb-true k top a) ∙ sym (cond-true (leb k top && ltb t slots) (usable (out rows t) k) [] (sym inside))
 
   -- at every level, in a slot of the bank
   pub word-counts : t < slots → map (up-to (λ k. length (usable (bit w) k)) top) (counting 0 65) ≡ capacities-at (calendar rows slots top) t
-  word-counts h = counted-same (up-to (λ k. length (usable (bit w) k)) top) (λ k. length (cores rows slots top k t)) 0 65 (λ k l. ⊎-elim (level k) (above k) (cases-bool (leb k top)))
+  word-counts h = counted-same (up-to (λ k. length (usable (bit w) k)) top) (λ k. length (usable-at rows slots top k t)) 0 65 (λ k l. ⊎-elim (level k) (above k) (cases-bool (leb k top)))
     where
-      level : (k : ℕ) → leb k top ≡ true → up-to (λ j. length (usable (bit w) j)) top k ≡ length (cores rows slots top k t)
+      level : (k : ℕ) → leb k top ≡ true → up-to (λ j. length (usable (bit w) j)) top k ≡ length (usable-at rows slots top k t)
       level k e = rw (e, lt-ltb t slots h) (ap length (word-usable k (leb-true k top e)))
 
-      above : (k : ℕ) → leb k top ≡ false → up-to (λ j. length (usable (bit w) j)) top k ≡ length (cores rows slots top k t)
+      above : (k : ℕ) → leb k top ≡ false → up-to (λ j. length (usable (bit w) j)) top k ≡ length (usable-at rows slots top k t)
       above k e = rw e
 
 pub no-counts : (rows : List Outage) (slots top t : ℕ) → slots ≤ t → replicate 65 0 ≡ capacities-at (calendar rows slots top) t
-no-counts rows slots top t h = counted-none (λ k. length (cores rows slots top k t)) 0 65
+no-counts rows slots top t h = counted-none (λ k. length (usable-at rows slots top k t)) 0 65
     (λ k. ap length (cond-false (leb k top && ltb t slots) (usable (out rows t) k) [] (and-right (leb k top) (ltb t slots) (le-ltb t slots h))))
 
 pub calendar-mark : (rows : List Outage) (slots top t : ℕ) →

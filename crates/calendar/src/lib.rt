@@ -18,6 +18,7 @@ use bank::size::Size;
 mod word;
 
 // A core that is out of service while from ≤ t < to. Any numbers are lawful.
+#[repr(C)]
 #[derive(Clone, Copy, PartialEq, Eq, Debug)]
 pub struct Outage {
     pub core: u32,

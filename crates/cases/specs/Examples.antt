@@ -1,7 +1,9 @@
 -- Worked examples of each kind of bank.
 use mathlib.Core.Path.{_≡_}
 use mathlib.Core.List.{List, [], _∷_}
+use mathlib.Core.Bool.{_||_}
 use Prim.Native.Nat.{ℕ, _<_}
+use lib.Dec.{eqb}
 use Rattle.std.specs.declared.option.Option.the-variants.{Some, None}
 use Rattle.calendar.specs.Calendar.{calendar}
 use Rattle.cooldown.specs.Cooldown.{cool-down}
@@ -17,9 +19,9 @@ outage-row core from to = record { core = core; from = from; to = to }
 abbrev pub window-row : ℕ → ℕ → ℕ → Window
 window-row from to count = record { from = from; to = to; count = count }
 
--- the bank's marks are just these two
+-- the marks are just these two, and each comes first after the one before
 abbrev pub Marks-are : Meaning → ℕ → ℕ → Type 0
-Marks-are m a b = (mark-after m 0 ≡ a) × (mark-after m a ≡ b) × (mark-after m b ≡ m .slots)
+Marks-are m a b = ((t : ℕ) → m .marked t ≡ (eqb t a || eqb t b)) × (mark-after m 0 ≡ a) × (mark-after m a ≡ b) × (mark-after m b ≡ m .slots)
 
 -- six slots and three cores, core 0 out in slots 2 and 3
 abbrev pub one-outage : Meaning

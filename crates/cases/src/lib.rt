@@ -14,6 +14,9 @@ use reserve::HostReserve;
 use reserve::HostReserveBank;
 use reserve::Window;
 
+#[cfg(test)]
+mod tests;
+
 // The capacities at one level in three slots.
 fn capacities_in<B: Bank>(bank: &B, level: u32, first: u32, second: u32, third: u32) -> [u32; 3]
     ensures { λ r. ⌜ r ≡ three-capacities (B·Bank .means (now (bank .entry))) level first second third ⌝ }
@@ -31,6 +34,7 @@ pub fn worked_examples() -> [[u32; 3]; 4]
     ensures examples { λ _. ⌜ Bank-examples ⌝ }
     ensures answers { λ r. ⌜ r ≡ (2 ∷ 2 ∷ 2 ∷ []) ∷ (1 ∷ 0 ∷ 1 ∷ []) ∷ (3 ∷ 1 ∷ 2 ∷ []) ∷ (2 ∷ 1 ∷ 2 ∷ []) ∷ [] ⌝ }
 {
+    examples_hold();
     [
         even_bank(),
         one_outage(),
@@ -39,10 +43,14 @@ pub fn worked_examples() -> [[u32; 3]; 4]
     ]
 }
 
+// The examples hold of the definitions.
+fn examples_hold()
+    ensures { λ _. ⌜ Bank-examples ⌝ }
+{}
+
 // Three cores, at level 2 in slots 0, 1 and 5.
 fn even_bank() -> [u32; 3]
-    ensures examples { λ _. ⌜ Bank-examples ⌝ }
-    ensures answer { λ r. ⌜ r ≡ 2 ∷ 2 ∷ 2 ∷ [] ⌝ }
+    ensures { λ r. ⌜ r ≡ 2 ∷ 2 ∷ 2 ∷ [] ⌝ }
 {
     capacities_in(&Even::new(6, 3), 2, 0, 1, 5)
 }

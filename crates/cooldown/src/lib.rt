@@ -13,6 +13,8 @@ ghost use Rattle.bank.specs.Meaning.{mark-after};
 ghost use Rattle.bank.specs.Refusals.{refusal-of};
 use bank::Bank;
 use bank::refusal::Refusal;
+use bank::size::MAX_LEVEL;
+use bank::size::MAX_SLOTS;
 
 // The last `rest` slots of each `period` slots are for rest.
 #[derive(Clone, Copy)]
@@ -30,8 +32,8 @@ impl Cycle {
         ensures rest { λ r. ⌜ r .rest ≡ nearest 0 4096 rest ⌝ }
     {
         Cycle {
-            period: period.clamp(1, 4096),
-            rest: rest.min(4096),
+            period: period.clamp(1, MAX_SLOTS),
+            rest: rest.min(MAX_SLOTS),
         }
     }
 
@@ -70,7 +72,7 @@ fn remainder_after(slot: u32, period: u32, remainder: u32, limit: u32) -> u32
 pub fn check_cool_down(period: u32, rest: u32, limit: u32) -> Result<(), Refusal>
     ensures { λ r. ⌜ refusal-of r ≡ cond (in-limits 1 4096 period && (in-limits 0 4096 rest && in-limits 0 64 limit)) None (Some 16) ⌝ }
 {
-    if period < 1 || period > 4096 || rest > 4096 || limit > 64 {
+    if period < 1 || period > MAX_SLOTS || rest > MAX_SLOTS || limit > MAX_LEVEL {
         return Err(Refusal::OutOfLimits);
     }
     Ok(())
@@ -103,7 +105,7 @@ impl<B: Bank> CoolDown<B> {
         CoolDown {
             below,
             cycle: Cycle::new(period, rest),
-            limit: limit.min(64),
+            limit: limit.min(MAX_LEVEL),
         }
     }
 

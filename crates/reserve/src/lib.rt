@@ -14,10 +14,13 @@ use crate::table::WindowTable;
 use bank::Bank;
 use bank::interval::Interval;
 use bank::refusal::Refusal;
+use bank::size::MAX_LEVEL;
+use bank::size::MAX_SLOTS;
 
 mod table;
 
 // A window of the host reserve: while from ≤ t < to, the host keeps `count` cores for itself.
+#[repr(C)]
 #[derive(Clone, Copy, PartialEq, Eq, Debug)]
 pub struct Window {
     pub from: u32,
@@ -39,7 +42,7 @@ impl Window {
     fn fits(&self) -> bool
         ensures { λ r. ⌜ r ≡ window-fits (now (self .entry)) ⌝ }
     {
-        self.from <= 4096 && self.to <= 4096 && self.count <= 64
+        self.from <= MAX_SLOTS && self.to <= MAX_SLOTS && self.count <= MAX_LEVEL
     }
 
     // The window with each number outside its limits taken as the nearest limit.
@@ -47,9 +50,9 @@ impl Window {
         ensures { λ r. ⌜ r ≡ clamped (now (self .entry)) ⌝ }
     {
         Window {
-            from: self.from.min(4096),
-            to: self.to.min(4096),
-            count: self.count.min(64),
+            from: self.from.min(MAX_SLOTS),
+            to: self.to.min(MAX_SLOTS),
+            count: self.count.min(MAX_LEVEL),
         }
     }
 
@@ -163,6 +166,7 @@ impl<B: Bank> HostReserve<B> {
     // A number outside its limits is taken as the nearest limit.
     pub fn new(below: B, windows: [Window; 8]) -> HostReserve<B>
         ensures below { λ r. ⌜ r .below ≡ below ⌝ }
+        ensures windows { λ r. ⌜ r .table .rows ≡ map clamped windows ⌝ }
         ensures meaning { λ r. ⌜ reserve (r .table .rows) (B·Bank .means (r .below)) ≡ reserve (map clamped windows) (B·Bank .means below) ⌝ }
     {
         HostReserve {

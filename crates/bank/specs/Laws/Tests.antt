@@ -1,4 +1,4 @@
--- Two tests of order that say the same.
+-- Tests of order that say the same, and tests of slots.
 use mathlib.Core.Path.{_≡_, sym, _∙_}
 use mathlib.Core.Logic.{⊎-elim}
 use mathlib.Core.Bool.{Bool, false, _&&_, _||_}
@@ -14,7 +14,7 @@ leb-same a b c d f g = ⊎-elim
     (λ h. le-leb a b h ∙ sym (le-leb c d (f h)))
     (cases-lt b a)
 
--- one slot on, away from the ends of a span
+-- one slot on, away from the ends of an interval
 pub within-stays : (from to t : ℕ) → edge-of from to (t + 1) ≡ false → within from to (t + 1) ≡ within from to t
 within-stays from to t h =
     let (a, b) = or-parts (eqb (t + 1) from) (eqb (t + 1) to) h in
@@ -26,6 +26,6 @@ within-stays from to t h =
     (λ l. omega arith) (λ l. ⊎-elim (λ q. absurd (y q)) (⊎-elim (λ q. omega arith) (λ q. absurd (omega arith))) (cases-order (t + 1) to)) in
     rw (begun, ended)
 
--- a slot from 1 to the last but one
+-- a slot from 1 to n - 1
 pub inner : (t n : ℕ) (e : Bool) → 0 < t → t < n → ((ltb 0 t && ltb t n) && e) ≡ e
 inner t n e low high = rw (lt-ltb 0 t low, lt-ltb t n high)

@@ -10,7 +10,7 @@ use lib.ListN.{length}
 use Rattle.std.specs.declared.option.Option.the-variants.{Some, None}
 use Rattle.std.specs.shelf.Maps.{nth}
 use Rattle.std.proofs.shelf.Tests.{cases-bool, cond-false, or-parts, and-left, and-right, le-ltb, lt-ltb, le-leb, lt-leb, cond-both}
-use Rattle.calendar.specs.Calendar.{takes-out, out, cores, outage-edge, calendar}
+use Rattle.calendar.specs.Calendar.{takes-out, out, usable-at, outage-edge, calendar}
 use Rattle.calendar.specs.Cores.{usable}
 use Rattle.bank.specs.Interval.{any-by}
 use Rattle.bank.specs.Meaning.{Rules}
@@ -30,7 +30,7 @@ out-stays t c (o ∷ rows) h =
     rw (takes-stays t c o a, out-stays t c rows b)
 
 cores-stays : (rows : List Outage) (slots top k t : ℕ) → t + 1 < slots → ((ltb 0 (t + 1) && ltb (t + 1) slots) && any-by (outage-edge (t + 1)) rows) ≡ false →
-    cores rows slots top k (t + 1) ≡ cores rows slots top k t
+    usable-at rows slots top k (t + 1) ≡ usable-at rows slots top k t
 cores-stays rows slots top k t h e =
     let low : t < slots = omega arith in
     let quiet : any-by (outage-edge (t + 1)) rows ≡ false = rw (lt-ltb 0 (t + 1) (omega arith), lt-ltb (t + 1) slots h) at e in
@@ -46,7 +46,7 @@ calendar-rules rows slots top s n = record {
   past-slots = λ k t h. ap length (cond-false (leb k top && ltb t slots) (usable (out rows t) k) [] (and-right (leb k top) (ltb t slots) (le-ltb t slots h)));
   level-bounds = λ k t. cond-both (leb k top && ltb t slots) (usable (out rows t) k) [] (λ xs. length xs ≤ k) (λ e. usable-length (out rows t) k) (λ e. omega arith);
   level-raises = raises;
-  lanes = λ k t i. nth-has (cores rows slots top k t) i;
+  lanes = λ k t i. nth-has (usable-at rows slots top k t) i;
   distinct = λ k t. cond-both (leb k top && ltb t slots) (usable (out rows t) k) [] (λ xs. (i j c : ℕ) → nth xs i ≡ Some c → nth xs j ≡ Some c → i ≡ j)
       (λ e. usable-distinct (out rows t) k .1) (λ e i j c a. absurd (none-some c a));
   powered = λ k t. cond-both (leb k top && ltb t slots) (usable (out rows t) k) [] (λ xs. (i c : ℕ) → nth xs i ≡ Some c → c < k)
@@ -57,7 +57,7 @@ calendar-rules rows slots top s n = record {
   core-stays = λ k t i h e. ap (λ xs. nth xs i) (cores-stays rows slots top k t h e);
 }
   where
-    raises : (k t : ℕ) → k < top → length (cores rows slots top k t) ≤ length (cores rows slots top (k + 1) t)
+    raises : (k t : ℕ) → k < top → length (usable-at rows slots top k t) ≤ length (usable-at rows slots top (k + 1) t)
     raises k t h =
         let a : k ≤ top = omega arith in
         let b : k + 1 ≤ top = omega arith in
