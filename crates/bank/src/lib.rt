@@ -6,6 +6,7 @@ pub mod even;
 pub mod interval;
 pub mod refusal;
 pub mod size;
+pub mod ticket;
 
 // What every kind of bank answers, for any numbers. A slot is the unit of time, counted from 0. At level k the cores 0
 // to k - 1 are powered. A lane is a place among the usable cores, counted from 0.

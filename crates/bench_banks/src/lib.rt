@@ -11,6 +11,7 @@ use calendar::CalendarBank;
 use calendar::Outage;
 use cooldown::CoolDown;
 use cooldown::CoolDownBank;
+use cooldown::Schedule;
 use reserve::HostReserve;
 use reserve::HostReserveBank;
 use reserve::Window;
@@ -120,5 +121,12 @@ fn full_pile(rows: &[Outage]) -> CoolDown<HostReserve<Calendar<'_>>>
         window(3500, 4096, 1),
     ];
     let calendar = Calendar::new(rows, 4096, 64);
-    CoolDown::new(HostReserve::new(calendar, windows), 16, 4, 40)
+    CoolDown::new(
+        HostReserve::new(calendar, windows),
+        Schedule {
+            period: 16,
+            rest: 4,
+            limit: 40,
+        },
+    )
 }

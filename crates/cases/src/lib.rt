@@ -10,6 +10,7 @@ use calendar::CalendarBank;
 use calendar::Outage;
 use cooldown::CoolDown;
 use cooldown::CoolDownBank;
+use cooldown::Schedule;
 use reserve::HostReserve;
 use reserve::HostReserveBank;
 use reserve::Window;
@@ -93,5 +94,18 @@ fn two_windows() -> [u32; 3]
 fn every_fourth_slot() -> [u32; 3]
     ensures { λ r. ⌜ r ≡ 2 ∷ 1 ∷ 2 ∷ [] ⌝ }
 {
-    capacities_in(&CoolDown::new(Even::new(6, 2), 4, 1, 1), 2, 2, 3, 4)
+    capacities_in(
+        &CoolDown::new(
+            Even::new(6, 2),
+            Schedule {
+                period: 4,
+                rest: 1,
+                limit: 1,
+            },
+        ),
+        2,
+        2,
+        3,
+        4,
+    )
 }

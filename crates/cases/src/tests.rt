@@ -10,6 +10,7 @@ use calendar::CalendarBank;
 use calendar::Outage;
 use cooldown::CoolDown;
 use cooldown::CoolDownBank;
+use cooldown::Schedule;
 use cooldown::check_cool_down;
 use reserve::HostReserve;
 use reserve::HostReserveBank;
@@ -352,17 +353,52 @@ fn each_cool_down_is_checked_at_its_limits() -> Result<(), Fail> {
         (u32::MAX, u32::MAX, u32::MAX, 16),
     ];
     for (period, rest, limit, number) in numbers {
-        check_eq(refused(check_cool_down(period, rest, limit)), number)?;
+        check_eq(
+            refused(check_cool_down(Schedule {
+                period,
+                rest,
+                limit,
+            })),
+            number,
+        )?;
     }
     Ok(())
 }
 
 #[test]
 fn a_rest_of_none_of_the_period_or_of_more() -> Result<(), Fail> {
-    let none = CoolDown::new(Even::new(9, 4), 4, 0, 1);
-    let all = CoolDown::new(Even::new(9, 4), 4, 4, 1);
-    let more = CoolDown::new(Even::new(9, 4), 4, 5, 1);
-    let clamped = CoolDown::new(Even::new(9, 64), 0, u32::MAX, u32::MAX);
+    let none = CoolDown::new(
+        Even::new(9, 4),
+        Schedule {
+            period: 4,
+            rest: 0,
+            limit: 1,
+        },
+    );
+    let all = CoolDown::new(
+        Even::new(9, 4),
+        Schedule {
+            period: 4,
+            rest: 4,
+            limit: 1,
+        },
+    );
+    let more = CoolDown::new(
+        Even::new(9, 4),
+        Schedule {
+            period: 4,
+            rest: 5,
+            limit: 1,
+        },
+    );
+    let clamped = CoolDown::new(
+        Even::new(9, 64),
+        Schedule {
+            period: 0,
+            rest: u32::MAX,
+            limit: u32::MAX,
+        },
+    );
     for slot in 0..9u32 {
         check_eq(
             (
@@ -385,7 +421,14 @@ fn a_rest_of_none_of_the_period_or_of_more() -> Result<(), Fail> {
             (64, 9),
         )?;
     }
-    let one = CoolDown::new(Even::new(9, 4), 4, 1, 1);
+    let one = CoolDown::new(
+        Even::new(9, 4),
+        Schedule {
+            period: 4,
+            rest: 1,
+            limit: 1,
+        },
+    );
     check_eq(
         (
             one.mark_after(0),
@@ -412,7 +455,14 @@ fn pile(rows: &[Outage]) -> CoolDown<HostReserve<Calendar<'_>>> {
             },
         ),
     );
-    CoolDown::new(reserve, 5, 2, 3)
+    CoolDown::new(
+        reserve,
+        Schedule {
+            period: 5,
+            rest: 2,
+            limit: 3,
+        },
+    )
 }
 
 // Compares the levels 0 to 64 of one slot, asked at once and one by one.

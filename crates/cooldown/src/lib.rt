@@ -16,6 +16,15 @@ use bank::refusal::Refusal;
 use bank::size::MAX_LEVEL;
 use bank::size::MAX_SLOTS;
 
+// The last `rest` of every `period` slots have at most `limit` usable cores.
+#[repr(C)]
+#[derive(Clone, Copy, PartialEq, Eq, Debug)]
+pub struct Schedule {
+    pub period: u32,
+    pub rest: u32,
+    pub limit: u32,
+}
+
 // The last `rest` slots of each `period` slots are for rest.
 #[derive(Clone, Copy)]
 struct Cycle {
@@ -69,9 +78,14 @@ fn remainder_after(slot: u32, period: u32, remainder: u32, limit: u32) -> u32
 }
 
 // Refuses a period outside 1 to 4,096, a rest above 4,096 or a limit above 64.
-pub fn check_cool_down(period: u32, rest: u32, limit: u32) -> Result<(), Refusal>
-    ensures { λ r. ⌜ refusal-of r ≡ cond (in-limits 1 4096 period && (in-limits 0 4096 rest && in-limits 0 64 limit)) None (Some 16) ⌝ }
+pub fn check_cool_down(schedule: Schedule) -> Result<(), Refusal>
+    ensures { λ r. ⌜ refusal-of r ≡ cond (in-limits 1 4096 (schedule .period) && (in-limits 0 4096 (schedule .rest) && in-limits 0 64 (schedule .limit))) None (Some 16) ⌝ }
 {
+    let Schedule {
+        period,
+        rest,
+        limit,
+    } = schedule;
     if period < 1 || period > MAX_SLOTS || rest > MAX_SLOTS || limit > MAX_LEVEL {
         return Err(Refusal::OutOfLimits);
     }
@@ -98,14 +112,14 @@ pub struct CoolDown<B> {
 
 impl<B: Bank> CoolDown<B> {
     // A number outside its limits is taken as the nearest limit.
-    pub fn new(below: B, period: u32, rest: u32, limit: u32) -> CoolDown<B>
+    pub fn new(below: B, schedule: Schedule) -> CoolDown<B>
         ensures below { λ r. ⌜ r .below ≡ below ⌝ }
-        ensures meaning { λ r. ⌜ cool-down (r .cycle .period) (r .cycle .rest) (r .limit) (B·Bank .means (r .below)) ≡ cool-down (nearest 1 4096 period) (nearest 0 4096 rest) (nearest 0 64 limit) (B·Bank .means below) ⌝ }
+        ensures meaning { λ r. ⌜ cool-down (r .cycle .period) (r .cycle .rest) (r .limit) (B·Bank .means (r .below)) ≡ cool-down (nearest 1 4096 (schedule .period)) (nearest 0 4096 (schedule .rest)) (nearest 0 64 (schedule .limit)) (B·Bank .means below) ⌝ }
     {
         CoolDown {
             below,
-            cycle: Cycle::new(period, rest),
-            limit: limit.min(MAX_LEVEL),
+            cycle: Cycle::new(schedule.period, schedule.rest),
+            limit: schedule.limit.min(MAX_LEVEL),
         }
     }
 
