@@ -1,0 +1,11 @@
+pub mod Lines
+pub mod Numerals
+pub mod Spelled
+pub mod Sheets
+pub mod Readings
+pub mod RoundTrip
+pub mod LineTrip
+pub mod SheetTrip
+pub mod Writes
+pub mod Fits
+pub mod Sizes

@@ -1,0 +1,11 @@
+pub mod Number
+pub mod Fields
+pub mod Places
+pub mod Records
+pub mod Sheet
+pub mod Tables
+pub mod Reading
+pub mod Writing
+pub mod Trips
+pub mod Written
+pub mod Output
