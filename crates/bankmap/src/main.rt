@@ -9,12 +9,15 @@ use calendar::CalendarBank;
 use calendar::Outage;
 use cooldown::CoolDown;
 use cooldown::CoolDownBank;
+use fault::ReadFault;
 use reserve::HostReserve;
 use reserve::HostReserveBank;
 use reserve::Window;
 use std::alloc::AllocError;
 use std::alloc::Global;
+use std::env;
 use std::error::AnyError;
+use std::fs;
 
 mod site;
 mod survey;
@@ -47,19 +50,26 @@ fn print_windows(rt: &impl Print, windows: &[Window; 8]) -> Result<(), AnyError>
 }
 
 // The numbers in force: the bank's slots and cores, and every limit that stands on them.
-fn print_limits<B: Bank>(rt: &impl Print, site: &Site, pile: &B) -> Result<(), AnyError> {
+fn print_limits<B: Bank>(
+    rt: &impl Print,
+    site: &Site,
+    outages: &[Outage],
+    pile: &B,
+) -> Result<(), AnyError> {
     let slots = pile.slots();
     let top = pile.top();
     println!(rt, "slots {slots}, cores {top}")?;
-    print_outages(rt, site.outages.as_slice())?;
+    print_outages(rt, outages)?;
     print_windows(rt, &site.windows)?;
     let period = site.cool_down.period;
     let rest = site.cool_down.rest;
     let limit = site.cool_down.limit;
-    println!(
-        rt,
-        "cool-down: at most {limit} usable in the last {rest} of every {period} slots"
-    )?;
+    if rest > 0 {
+        println!(
+            rt,
+            "cool-down: at most {limit} usable in the last {rest} of every {period} slots"
+        )?;
+    }
     Ok(())
 }
 
@@ -105,16 +115,86 @@ fn print_spans<A: Bank, B: Bank>(
     Ok(())
 }
 
-fn run(rt: &LibcRuntime) -> Result<(), AnyError> {
-    let site = Site::sample(rt.alloc())?;
-    let calendar = Calendar::new(site.outages.as_slice(), site.slots, site.top);
-    let reserve = HostReserve::new(calendar, site.windows);
-    let cool_down = site.cool_down;
-    let pile = CoolDown::new(reserve, cool_down.period, cool_down.rest, cool_down.limit);
-    print_limits(rt, &site, &pile)?;
+// The map of a site.
+fn print_site(rt: &LibcRuntime, site: &Site) -> Result<(), AnyError> {
+    let outages = site.outages.get(0..site.outage_count).unwrap_or(&[]);
+    let calendar = Calendar::new(outages, site.extent.slots, site.extent.top);
+    let pile = CoolDown::new(HostReserve::new(calendar, site.windows), site.cool_down);
+    print_limits(rt, site, outages, &pile)?;
     print_spans(rt, &calendar, &pile)
 }
 
+// The bytes of a line as text, with a question mark for each byte that is no printable character of ASCII.
+fn printable(heap: Global, line: &[u8]) -> Result<String, AllocError> {
+    let mut text = String::new(heap);
+    for b in line {
+        text.push(if *b >= 32 && *b < 127 {
+            *b as char
+        } else {
+            '?'
+        })?;
+    }
+    Ok(text)
+}
+
+// A caret under a byte of the line above.
+fn caret(heap: Global, byte: usize) -> Result<String, AllocError> {
+    let mut text = String::new(heap);
+    for _ in 0..byte {
+        text.push(' ')?;
+    }
+    text.push('^')?;
+    Ok(text)
+}
+
+// Why a sheet is refused: the number, and the place and the line of the field at fault where it has one.
+fn print_fault(rt: &LibcRuntime, text: &[u8], fault: &ReadFault) -> Result<(), AnyError> {
+    let number = fault.number();
+    let ReadFault::At(field) = fault else {
+        println!(rt, "no {number}")?;
+        return Ok(());
+    };
+    let section = field.section;
+    let line = field.line.line;
+    let byte = field.line.number.byte;
+    println!(rt, "no {number} {section} {line} {byte}")?;
+    let shown = printable(rt.alloc(), field.line_in(text, &[]))?;
+    let under = caret(rt.alloc(), byte)?;
+    println!(rt, "{shown}")?;
+    println!(rt, "{under}")?;
+    Ok(())
+}
+
+// The folder given as the first argument, or else the current one.
+fn sheet_path(rt: &LibcRuntime) -> Result<String, AnyError> {
+    let mut words = env::args(rt)?;
+    let _ = words.next();
+    match words.next() {
+        Some(folder) => Ok(format!(rt.alloc(), "{folder}/sheet.txt")?),
+        None => Ok(String::from_str(rt.alloc(), "sheet.txt")?),
+    }
+}
+
+// Shows the site of a sheet; false where the sheet is refused.
+fn run(rt: &LibcRuntime) -> Result<bool, AnyError> {
+    let path = sheet_path(rt)?;
+    let text = fs::read(rt, path.as_str())?;
+    match Site::read(text.as_slice()) {
+        Ok(site) => {
+            print_site(rt, &site)?;
+            Ok(true)
+        }
+        Err(fault) => {
+            print_fault(rt, text.as_slice(), &fault)?;
+            Ok(false)
+        }
+    }
+}
+
 fn main(rt: LibcRuntime) -> Result<(), AnyError> {
-    rt.report(run(&rt))
+    if rt.report(run(&rt))? {
+        Ok(())
+    } else {
+        Err("the sheet is refused".into())
+    }
 }

@@ -1,67 +1,56 @@
-// A site: its cores, and the limits that stand on them.
+// A site: its cores, and the limits that stand on them, as its sheet says.
+use bank::ticket::Ticket;
 use calendar::Outage;
+use cooldown::Schedule;
+use fault::ReadFault;
 use reserve::Window;
-use std::alloc::AllocError;
-use std::alloc::Global;
-use std::fmt;
+use sheet::Extent;
+use sheet::read_sheet;
 
-// The last `rest` slots of every `period` slots have at most `limit` cores.
+// A cool-down that cuts nothing and marks nothing, where the sheet has none.
+const NO_REST: Schedule = Schedule {
+    period: 1,
+    rest: 0,
+    limit: 0,
+};
+
 #[derive(Clone, Copy)]
-pub(crate) struct CoolDownNumbers {
-    pub period: u32,
-    pub rest: u32,
-    pub limit: u32,
-}
-
-#[derive(Drop)]
 pub(crate) struct Site {
-    pub slots: u32,
-    pub top: u32,
-    pub outages: Vec<Outage>,
+    pub extent: Extent,
+    pub outages: [Outage; 64],
+    pub outage_count: usize,
+    // Windows that the sheet does not have are all 0.
     pub windows: [Window; 8],
-    pub cool_down: CoolDownNumbers,
+    pub cool_down: Schedule,
 }
 
 impl Site {
-    // A sample: two cores fail, the host reserves cores twice, and the cores cool down at the end of every eight slots.
-    pub(crate) fn sample(heap: Global) -> Result<Site, AllocError> {
-        let unused = Window {
+    // The site of a sheet's text.
+    pub(crate) fn read(text: &[u8]) -> Result<Site, ReadFault> {
+        let mut outages = [Outage {
+            core: 0,
+            from: 0,
+            to: 0,
+        }; 64];
+        let mut windows = [Window {
             from: 0,
             to: 0,
             count: 0,
-        };
-        let mut windows = [unused; 8];
-        windows[0] = Window {
-            from: 6,
-            to: 12,
-            count: 2,
-        };
-        windows[1] = Window {
-            from: 10,
-            to: 18,
-            count: 1,
-        };
+        }; 8];
+        let mut tickets = [Ticket {
+            number: 0,
+            arrival: 0,
+            deadline: 0,
+            work: 0,
+            bound: 0,
+        }; 64];
+        let head = read_sheet(text, &mut outages, &mut windows, &mut tickets)?;
         Ok(Site {
-            slots: 24,
-            top: 8,
-            outages: vec![in heap;
-                Outage {
-                    core: 2,
-                    from: 4,
-                    to: 9
-                },
-                Outage {
-                    core: 5,
-                    from: 7,
-                    to: 16
-                },
-            ]?,
+            extent: head.extent,
+            outages,
+            outage_count: head.outages.min(64),
             windows,
-            cool_down: CoolDownNumbers {
-                period: 8,
-                rest: 2,
-                limit: 5,
-            },
+            cool_down: head.cool_down.unwrap_or(NO_REST),
         })
     }
 }
