@@ -14,9 +14,6 @@ mark-ahead m t h =
     ahead : (r : ℕ) → First (m .marked) (m .slots) (t + 1) r → t < r
     ahead r f = grind (arith, f .least, f .bounded)
 
-pub mark-most : (m : Meaning) (t : ℕ) → mark-after m t ≤ m .slots
-mark-most m t = above-first (m .marked) (m .slots) t .bounded
-
 module _ (m : Meaning) (rules : Rules m) (t end : ℕ) (is : end ≡ mark-after m t) where
   first : First (m .marked) (m .slots) (t + 1) (mark-after m t)
   first = above-first (m .marked) (m .slots) t

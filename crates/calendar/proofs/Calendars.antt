@@ -24,9 +24,6 @@ use Rattle.bank.proofs.Firsts.{first-same}
 use Rattle.bank.proofs.Tables.{any-by-more}
 use Rattle.calendar.proofs.Words.{bit-or, bit-power}
 
-pub same-calendar : {rows kept : List Outage} {slots len top most : ℕ} → rows ≡ kept → slots ≡ len → top ≡ most → calendar rows slots top ≡ calendar kept len most
-same-calendar a b c = rw (a, b, c)
-
 and-true : (x y : Bool) → true ≡ y → x ≡ (x && y)
 and-true true y h = h
 and-true false y h = refl

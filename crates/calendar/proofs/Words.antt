@@ -3,7 +3,7 @@ use mathlib.Core.Path.{_≡_, refl, sym, ap, _∙_}
 use mathlib.Core.Logic.{⊎-elim}
 use mathlib.Core.Bool.{Bool, true, false, _||_}
 use Prim.Native.Nat.{ℕ, zero, suc, _+_, _-_, _*_, _/_, _%_, _^_, _≤_, _<_, max}
-use native.Mathlib.Nat.{add-zero, zero-div, div-eq-of-lt, div-self, pow-suc}
+use native.Mathlib.Nat.{add-zero, div-eq-of-lt, div-self, pow-suc}
 use native.Mathlib.Numerals.{add-one, one-add}
 use native.Mathlib.Omega.{arith}
 use lib.Bits.{bitOr, bitAnd, or-step, or-shr}
@@ -30,9 +30,6 @@ pub bit-or : (a b c : ℕ) → bit (bitOr a b) c ≡ (bit a c || bit b c)
 bit-or a b c =
     ap (λ n. eqb (n % 2) 1) (or-shr a b c) ∙ ap (λ n. eqb n 1) (or-odd (a / 2 ^ c) (b / 2 ^ c)) ∙
     max-set (a / 2 ^ c % 2) (b / 2 ^ c % 2) (mod-below (a / 2 ^ c) 2 (omega arith)) (mod-below (b / 2 ^ c) 2 (omega arith))
-
-pub bit-zero : (c : ℕ) → bit 0 c ≡ false
-bit-zero c = rw (zero-div (2 ^ c))
 
 -- a power of two has one bit
 pub bit-power : (j c : ℕ) → bit (2 ^ j) c ≡ eqb j c
