@@ -9,7 +9,6 @@ use calendar::CalendarBank;
 use calendar::Outage;
 use cooldown::CoolDown;
 use cooldown::CoolDownBank;
-use fault::ReadFault;
 use reserve::HostReserve;
 use reserve::HostReserveBank;
 use reserve::Window;
@@ -18,6 +17,7 @@ use std::alloc::Global;
 use std::env;
 use std::error::AnyError;
 use std::fs;
+use text::ReadFault;
 
 mod site;
 mod survey;

@@ -2,10 +2,10 @@
 use bank::ticket::Ticket;
 use calendar::Outage;
 use cooldown::Schedule;
-use fault::ReadFault;
 use reserve::Window;
 use sheet::Extent;
 use sheet::read_sheet;
+use text::ReadFault;
 
 // A cool-down that cuts nothing and marks nothing, where the sheet has none.
 const NO_REST: Schedule = Schedule {

@@ -6,8 +6,9 @@ use Prim.Native.Nat.{ℕ, zero, suc, _+_, _<_, _≤_}
 use native.Mathlib.Omega.{arith}
 use lib.ListN.{length, getD, drop}
 use Rattle.std.proofs.shelf.Lists.{at-drop-more, at-drop-all}
-use Rattle.sheet.specs.declared.limits.Limits.{Limits}
-use Rattle.sheet.specs.Fields.{within, fits}
+use Rattle.text.specs.declared.limits.Limits.{Limits}
+use Rattle.sheet.specs.Fields.{fits}
+use Rattle.text.specs.Field.{within}
 use Rattle.sheet.specs.Written.{every}
 use Rattle.sheet.proofs.Lines.{unlisted}
 

@@ -1,5 +1,4 @@
 pub mod Lines
-pub mod Numerals
 pub mod Spelled
 pub mod Sheets
 pub mod Readings

@@ -16,12 +16,13 @@ use Rattle.std.specs.declared.option.Option.{Option}
 use Rattle.std.specs.declared.option.Option.the-variants.{Some, None}
 use Rattle.std.specs.declared.result.Result.{Result}
 use Rattle.std.specs.declared.result.Result.the-variants.{Ok, Err}
-use Rattle.fault.specs.declared.LineFault.{LineFault}
-use Rattle.fault.specs.declared.NumberFault.{NumberFault}
-use Rattle.sheet.specs.declared.limits.Limits.{Limits}
-use Rattle.sheet.specs.declared.number.Field.{Field}
-use Rattle.sheet.specs.Number.{closes, numeral}
-use Rattle.sheet.specs.Fields.{within, judged, field, Line, close-before, and-then, fields, Rows, on-line, lines, count-to, section, Fitting, Short}
+use Rattle.text.specs.declared.LineFault.{LineFault}
+use Rattle.text.specs.declared.NumberFault.{NumberFault}
+use Rattle.text.specs.declared.limits.Limits.{Limits}
+use Rattle.text.specs.declared.number.Field.{Field}
+use Rattle.text.specs.Number.{closes, numeral}
+use Rattle.sheet.specs.Fields.{Line, close-before, fields, Rows, lines, count-to, section, Fitting, Short}
+use Rattle.text.specs.Field.{within, judged, field, and-then, on-line}
 use Rattle.sheet.specs.Trips.{Fit-rows}
 use Rattle.sheet.specs.Writing.{close-for, write-line, write-lines, write-section}
 use Rattle.sheet.proofs.Spelled.{spelled-all}

@@ -8,13 +8,14 @@ use lib.ListN.{length, getD, set, take, drop, length-set, length-drop}
 use Rattle.std.proofs.shelf.Lists.{at-drop-more, at-drop-all, drop-drop, take-more-set, take-rest, drop-set-lt}
 use Rattle.std.specs.declared.result.Result.{Result}
 use Rattle.std.specs.declared.result.Result.the-variants.{Ok, Err}
-use Rattle.fault.specs.declared.LineFault.{LineFault}
-use Rattle.fault.specs.declared.NumberFault.{NumberFault}
+use Rattle.text.specs.declared.LineFault.{LineFault}
+use Rattle.text.specs.declared.NumberFault.{NumberFault}
 use Rattle.bank.specs.declared.refusal.Refusal.the-variants.{SlotOpen}
-use Rattle.sheet.specs.declared.limits.Limits.{Limits}
-use Rattle.sheet.specs.declared.number.Field.{Field}
-use Rattle.fault.specs.Faults.{tagged}
-use Rattle.sheet.specs.Fields.{field, close-before, and-then, on-line, Line, fields, Rows, lines, count-to, section}
+use Rattle.text.specs.declared.limits.Limits.{Limits}
+use Rattle.text.specs.declared.number.Field.{Field}
+use Rattle.text.specs.Faults.{tagged}
+use Rattle.sheet.specs.Fields.{close-before, Line, fields, Rows, lines, count-to, section}
+use Rattle.text.specs.Field.{field, and-then, on-line}
 
 pub close-inside : (ls : List Limits) (k : ℕ) → k < length ls → 32 ≡ close-before (drop k ls)
 close-inside [] k h = absurd (omega arith)

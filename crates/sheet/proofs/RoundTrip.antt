@@ -17,9 +17,9 @@ use Rattle.std.specs.Written.{decimal}
 use Rattle.std.specs.shelf.Text.{allDigits}
 use Rattle.std.specs.declared.option.Option.{Option}
 use Rattle.std.specs.declared.option.Option.the-variants.{Some, None}
-use Rattle.sheet.specs.declared.number.Field.{Field}
-use Rattle.sheet.specs.Number.{closes, continues, numeral}
-use Rattle.sheet.proofs.Numerals.{numeral-closed, numeral-more, Digit, digit-from}
+use Rattle.text.specs.declared.number.Field.{Field}
+use Rattle.text.specs.Number.{closes, continues, numeral}
+use Rattle.text.proofs.Numerals.{numeral-closed, numeral-more, Digit, digit-from}
 
 abbrev pub readOn : ℕ → List ℕ → ℕ
 readOn n [] = n

@@ -8,21 +8,22 @@ use lib.Dec.{ltb}
 use lib.ListN.{length, getD}
 use Rattle.std.proofs.shelf.Tests.{both-ways, and-parts, and-from, or-parts, or-from, ltb-false, le-ltb, cond-true, cond-false}
 use Rattle.std.specs.shelf.Lists.{All}
-use Rattle.sheet.specs.declared.limits.Limits.{Limits}
+use Rattle.text.specs.declared.limits.Limits.{Limits}
 use Rattle.sheet.specs.Output.{sheet-fits, too-many, writing}
-use Rattle.fault.specs.Faults.{Refused}
+use Rattle.text.specs.Faults.{Refused}
 use Rattle.sheet.specs.Reading.{too-short, judged-sheet, reading}
 use Rattle.sheet.specs.Written.{every}
 use Rattle.std.specs.declared.result.Result.{Result}
 use Rattle.std.specs.declared.result.Result.the-variants.{Ok, Err}
-use Rattle.fault.specs.declared.LineFault.{LineFault}
-use Rattle.fault.specs.declared.TextFault.{TextFault}
+use Rattle.text.specs.declared.LineFault.{LineFault}
+use Rattle.text.specs.declared.TextFault.{TextFault}
 use Rattle.sheet.specs.declared.records.Extent.{Extent}
 use Rattle.calendar.specs.declared.Outage.{Outage}
 use Rattle.reserve.specs.declared.Window.{Window}
 use Rattle.cooldown.specs.declared.Schedule.{Schedule}
 use Rattle.bank.specs.declared.ticket.Ticket.{Ticket}
-use Rattle.sheet.specs.Fields.{within, and-then, Rows, lines, section, fits, Fitting}
+use Rattle.sheet.specs.Fields.{Rows, lines, section, fits, Fitting}
+use Rattle.text.specs.Field.{within, and-then}
 use Rattle.sheet.specs.Records.{extent-limits, make-extent, no-extent, extent-numbers, outage-limits, make-outage, outage-numbers, window-limits, make-window, window-numbers, cool-down-limits, make-cool-down, cool-down-numbers, ticket-limits, make-ticket, ticket-numbers}
 use Rattle.sheet.specs.Sheet.{Sheet, in-section, ended, after-cool-downs, after-windows, after-outages, after-extent, sheet}
 use Rattle.sheet.specs.Trips.{Fit-rows, Valid, Reads-back, Writes-back, Written-then-read, Read-then-written}

@@ -7,16 +7,17 @@ use lib.ListN.{length, getD, take, drop}
 use Rattle.std.proofs.shelf.Lists.{drop-all}
 use Rattle.std.specs.declared.result.Result.{Result}
 use Rattle.std.specs.declared.result.Result.the-variants.{Ok, Err}
-use Rattle.fault.specs.declared.LineFault.{LineFault}
+use Rattle.text.specs.declared.LineFault.{LineFault}
 use Rattle.bank.specs.declared.refusal.Refusal.the-variants.{NotInFormat}
-use Rattle.fault.specs.declared.TextFault.{TextFault}
+use Rattle.text.specs.declared.TextFault.{TextFault}
 use Rattle.sheet.specs.declared.records.Extent.{Extent}
 use Rattle.calendar.specs.declared.Outage.{Outage}
 use Rattle.reserve.specs.declared.Window.{Window}
 use Rattle.cooldown.specs.declared.Schedule.{Schedule}
 use Rattle.bank.specs.declared.ticket.Ticket.{Ticket}
-use Rattle.fault.specs.Faults.{tagged}
-use Rattle.sheet.specs.Fields.{and-then, Rows, lines, section}
+use Rattle.text.specs.Faults.{tagged}
+use Rattle.sheet.specs.Fields.{Rows, lines, section}
+use Rattle.text.specs.Field.{and-then}
 use Rattle.sheet.specs.Records.{extent-limits, make-extent, no-extent, outage-limits, make-outage, window-limits, make-window, cool-down-limits, make-cool-down, ticket-limits, make-ticket}
 use Rattle.sheet.specs.Sheet.{Sheet, in-section, ended, after-cool-downs, after-windows, after-outages, after-extent, sheet}
 

@@ -9,8 +9,9 @@ use lib.ListN.{length, length-append}
 use Rattle.std.proofs.shelf.Decimals.{length-decimal-le}
 use Rattle.std.specs.Written.{decimal}
 use Rattle.std.specs.shelf.Lists.{All}
-use Rattle.sheet.specs.declared.limits.Limits.{Limits}
-use Rattle.sheet.specs.Fields.{within, Fitting, Short}
+use Rattle.text.specs.declared.limits.Limits.{Limits}
+use Rattle.sheet.specs.Fields.{Fitting, Short}
+use Rattle.text.specs.Field.{within}
 use Rattle.sheet.specs.Records.{extent-limits, outage-limits, window-limits, cool-down-limits, ticket-limits, extent-numbers, outage-numbers, window-numbers, cool-down-numbers, ticket-numbers}
 use Rattle.sheet.specs.Sheet.{Sheet}
 use Rattle.sheet.specs.Trips.{Fit-rows, Valid}

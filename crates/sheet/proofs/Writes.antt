@@ -9,8 +9,9 @@ use Rattle.std.proofs.shelf.Decimals.{length-decimal-le}
 use Rattle.std.proofs.shelf.Lists.{take-more-set, drop-set-lt, drop-drop, at-drop-more, at-drop-all, joined-more, take-more}
 use Rattle.std.proofs.shelf.Tests.{both-ways, and-parts}
 use Rattle.std.specs.Written.{decimal}
-use Rattle.sheet.specs.declared.limits.Limits.{Limits}
-use Rattle.sheet.specs.Fields.{within, close-before, fits, Short}
+use Rattle.text.specs.declared.limits.Limits.{Limits}
+use Rattle.sheet.specs.Fields.{close-before, fits, Short}
+use Rattle.text.specs.Field.{within}
 use Rattle.sheet.specs.Writing.{close-for, write-line, write-lines}
 use Rattle.sheet.specs.Written.{Wrote, every}
 use Rattle.sheet.proofs.LineTrip.{below-high}
@@ -88,7 +89,3 @@ every-at f (x ∷ xs) (suc i) d h k = every-at f xs i d (and-parts (f x) (every 
 -- one row more
 pub lines-more : {R : Type 0} (numbers : R → List ℕ) (rows : List R) (i : ℕ) (d : R) → i < length rows → write-lines numbers (take i rows) ++ write-line (numbers (getD rows i d)) ≡ write-lines numbers (take (i + 1) rows)
 lines-more numbers rows i d h = joined-more (λ r. write-line (numbers r)) [] (take i rows) (getD rows i d) ∙ ap (write-lines numbers) (sym (take-more rows i d h))
-
--- a text that was written at the start
-pub wrote-all : (old new text : List ℕ) (end : ℕ) → Wrote old new 0 text end → (end ≡ length text) × (take end new ≡ text)
-wrote-all old new text end w = (w .ends ∙ (omega arith), w .front)

@@ -9,28 +9,12 @@ use Rattle.std.specs.declared.option.Option.{Option}
 use Rattle.std.specs.declared.option.Option.the-variants.{Some, None}
 use Rattle.std.specs.declared.result.Result.{Result}
 use Rattle.std.specs.declared.result.Result.the-variants.{Ok, Err}
-use Rattle.fault.specs.declared.LineFault.{LineFault}
-use Rattle.fault.specs.declared.NumberFault.{NumberFault}
+use Rattle.text.specs.declared.LineFault.{LineFault}
+use Rattle.text.specs.declared.NumberFault.{NumberFault}
 use Rattle.bank.specs.declared.refusal.Refusal.the-variants.{NotInFormat, CountAboveLimit}
-use Rattle.sheet.specs.declared.limits.Limits.{Limits}
-use Rattle.sheet.specs.declared.number.Field.{Field}
-use Rattle.sheet.specs.Number.{numeral}
-
-abbrev pub within : Limits → ℕ → Bool
-within l n = leb (l .low) n && leb n (l .high)
-
--- a field that was read: its number has to lie within the limits, and then its close has to be the one due,
--- or else the next field, at fault, is missing or surplus
-abbrev pub judged : Limits → ℕ → ℕ → Option Field → Result Field NumberFault
-judged l close byte None = Err (record { refusal = NotInFormat; byte = byte })
-judged l close byte (Some f) =
-    cond (within l (f .number))
-    (cond (eqb (f .close) close) (Ok f) (Err (record { refusal = NotInFormat; byte = byte + f .len })))
-    (Err (record { refusal = l .refusal; byte = byte }))
-
--- the field at the front of the bytes, which begins at `byte` of its line
-abbrev pub field : Limits → ℕ → ℕ → List ℕ → Result Field NumberFault
-field l close byte bs = judged l close byte (numeral 0 0 bs)
+use Rattle.text.specs.declared.limits.Limits.{Limits}
+use Rattle.text.specs.declared.number.Field.{Field}
+use Rattle.text.specs.Field.{within, field, and-then, on-line}
 
 -- the numbers of a line, and the bytes after it
 pub record Line : Type 0 where
@@ -41,11 +25,6 @@ pub record Line : Type 0 where
 abbrev pub close-before : List Limits → ℕ
 close-before [] = 10
 close-before (l ∷ ls) = 32
-
--- goes on with what was read, or ends with the fault
-abbrev pub and-then : {X Y F : Type 0} → Result X F → (X → Result Y F) → Result Y F
-and-then (Ok x) next = next x
-and-then (Err fault) next = Err fault
 
 -- the fields under these limits, from `byte` of the line on, after the numbers read before
 abbrev pub fields : List Limits → ℕ → List ℕ → List ℕ → Result Line NumberFault
@@ -58,11 +37,6 @@ pub record Rows (R : Type 0) : Type 0 where
   pub rows : List R
   pub next : ℕ
   pub rest : List ℕ
-
--- a number's fault in its line
-abbrev pub on-line : {X : Type 0} → ℕ → Result X NumberFault → Result X LineFault
-on-line line (Ok x) = Ok x
-on-line line (Err fault) = Err (record { line = line; number = fault })
 
 -- k lines from `line` on, each with a field for each limit, and each made into a record, after the records read before
 abbrev pub lines : {R : Type 0} → List Limits → (List ℕ → R) → ℕ → ℕ → List ℕ → List R → Result (Rows R) LineFault

@@ -1,4 +1,3 @@
-pub mod Number
 pub mod Fields
 pub mod Places
 pub mod Records

@@ -5,8 +5,8 @@ use Prim.Native.Nat.{ℕ, _+_, _≤_}
 use lib.ListN.{length, take, drop}
 use Rattle.std.specs.declared.result.Result.{Result}
 use Rattle.std.specs.declared.result.Result.the-variants.{Ok, Err}
-use Rattle.fault.specs.declared.LineFault.{LineFault}
-use Rattle.sheet.specs.declared.limits.Limits.{Limits}
+use Rattle.text.specs.declared.LineFault.{LineFault}
+use Rattle.text.specs.declared.limits.Limits.{Limits}
 use Rattle.sheet.specs.declared.rows.Place.{Place}
 use Rattle.sheet.specs.declared.section.Section.{Section}
 use Rattle.sheet.specs.Fields.{Rows, lines, section}

@@ -9,10 +9,10 @@ use Rattle.std.specs.declared.option.Option.{Option}
 use Rattle.std.specs.declared.option.Option.the-variants.{Some, None}
 use Rattle.std.specs.declared.result.Result.{Result}
 use Rattle.std.specs.declared.result.Result.the-variants.{Ok, Err}
-use Rattle.fault.specs.declared.TextFault.{TextFault}
-use Rattle.fault.specs.declared.ReadFault.{ReadFault}
-use Rattle.fault.specs.declared.ReadFault.the-variants.{At}
-use Rattle.fault.specs.Faults.{Refused, refused-by, read-refusal}
+use Rattle.text.specs.declared.TextFault.{TextFault}
+use Rattle.text.specs.declared.ReadFault.{ReadFault}
+use Rattle.text.specs.declared.ReadFault.the-variants.{At}
+use Rattle.text.specs.Faults.{Refused, refused-by, read-refusal}
 use Rattle.sheet.specs.declared.reader.SheetHead.{SheetHead}
 use Rattle.sheet.specs.declared.records.Extent.{Extent}
 use Rattle.calendar.specs.declared.Outage.{Outage}

@@ -3,7 +3,7 @@ use mathlib.Core.List.{List, [], _∷_}
 use Prim.Native.Nat.{ℕ}
 use lib.ListN.{getD}
 use Rattle.bank.specs.declared.refusal.Refusal.the-variants.{OutOfLimits}
-use Rattle.sheet.specs.declared.limits.Limits.{Limits}
+use Rattle.text.specs.declared.limits.Limits.{Limits}
 use Rattle.sheet.specs.declared.records.Extent.{Extent}
 use Rattle.calendar.specs.declared.Outage.{Outage}
 use Rattle.reserve.specs.declared.Window.{Window}

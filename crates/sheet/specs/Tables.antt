@@ -5,7 +5,7 @@ use Prim.Native.Nat.{ℕ, _≤_}
 use lib.ListN.{take}
 use Rattle.std.specs.declared.result.Result.{Result}
 use Rattle.std.specs.declared.result.Result.the-variants.{Ok, Err}
-use Rattle.fault.specs.declared.TextFault.{TextFault}
+use Rattle.text.specs.declared.TextFault.{TextFault}
 use Rattle.calendar.specs.declared.Outage.{Outage}
 use Rattle.reserve.specs.declared.Window.{Window}
 use Rattle.cooldown.specs.declared.Schedule.{Schedule}

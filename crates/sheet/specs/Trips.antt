@@ -9,7 +9,7 @@ use Rattle.std.specs.declared.result.Result.the-variants.{Ok}
 use Rattle.bank.specs.declared.ticket.Ticket.{Ticket}
 use Rattle.calendar.specs.declared.Outage.{Outage}
 use Rattle.reserve.specs.declared.Window.{Window}
-use Rattle.sheet.specs.declared.limits.Limits.{Limits}
+use Rattle.text.specs.declared.limits.Limits.{Limits}
 use Rattle.sheet.specs.Fields.{Fitting}
 use Rattle.sheet.specs.Output.{writing}
 use Rattle.sheet.specs.Reading.{too-short, reading}

@@ -1,11 +1,11 @@
 // Whether records have their numbers within the limits.
 ghost use mathlib.Core.Path.{_≡_};
-ghost use Prim.Native.Nat.{ℕ, _<_, _≤_};
-ghost use lib.ListN.{length};
-ghost use Rattle.sheet.specs.Fields.{fits, within};
+ghost use Prim.Native.Nat.{_<_};
+ghost use Rattle.sheet.specs.Fields.{fits};
+ghost use Rattle.text.specs.Field.{within};
 ghost use Rattle.sheet.specs.Written.{every};
-use crate::limits::Limits;
 use crate::rows::Row;
+use text::limits::Limits;
 
 // Whether `n` stands within `limits`.
 fn number_fits(limits: Limits, n: u32) -> bool

@@ -1,7 +1,5 @@
-// Sheets: a bank and its tickets as text. Reading, writing, and the faults of a text with their places.
+// Sheets: a bank and its tickets as text, read and written.
 mod checks;
-mod limits;
-mod number;
 mod output;
 mod reader;
 mod records;

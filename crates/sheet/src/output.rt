@@ -1,7 +1,7 @@
 // Writing of a whole sheet into the caller's buffer.
 ghost use mathlib.Core.Path.{_≡_};
 ghost use mathlib.Core.Bool.{true, false};
-ghost use Prim.Native.Nat.{ℕ, _+_, _≤_};
+ghost use Prim.Native.Nat.{_≤_};
 ghost use lib.ListN.{length};
 ghost use Rattle.sheet.specs.Records.{no-extent};
 ghost use Rattle.sheet.specs.Output.{sheet-of, sheet-fits, too-many, writing, Put};

@@ -1,7 +1,7 @@
 // Reading of a sheet into the caller's tables.
 ghost use mathlib.Core.Path.{_≡_};
 ghost use mathlib.Core.List.{_++_};
-ghost use Prim.Native.Nat.{ℕ, _≤_};
+ghost use Prim.Native.Nat.{_≤_};
 ghost use lib.ListN.{length, take, drop};
 ghost use Rattle.sheet.specs.Sheet.{sheet};
 ghost use Rattle.sheet.specs.Trips.{Read-then-written};
@@ -12,12 +12,10 @@ use crate::trips::round_trips;
 use bank::ticket::Ticket;
 use calendar::Outage;
 use cooldown::Schedule;
-use fault::ReadFault;
-use fault::ReadFaultFromText;
 use reserve::Window;
-
-// The most bytes that a text has.
-pub(crate) const MAX_TEXT: usize = 16384;
+use text::MAX_TEXT;
+use text::ReadFault;
+use text::ReadFaultFromText;
 
 // A sheet whose outages, windows and tickets stand in the front of the caller's tables.
 #[derive(Clone, Copy)]

@@ -1,14 +1,12 @@
 // The records of a sheet, and the limits of their fields.
-ghost use mathlib.Core.Path.{_≡_};
-ghost use Prim.Native.Nat.{ℕ};
 ghost use Rattle.sheet.specs.Records.{extent-limits, make-extent, extent-numbers, outage-limits, make-outage, outage-numbers, window-limits, make-window, window-numbers, cool-down-limits, make-cool-down, cool-down-numbers, ticket-limits, make-ticket, ticket-numbers};
-use crate::limits::Limits;
 use crate::rows::Row;
 use bank::refusal::Refusal;
 use bank::ticket::Ticket;
 use calendar::Outage;
 use cooldown::Schedule;
 use reserve::Window;
+use text::limits::Limits;
 
 // The number of slots and the top level.
 #[derive(Clone, Copy)]

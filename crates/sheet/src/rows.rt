@@ -1,16 +1,15 @@
 // The lines of a section, each read into a record.
 ghost use mathlib.Core.Path.{_≡_};
-ghost use mathlib.Core.List.{List, []};
-ghost use Prim.Native.Nat.{ℕ, _+_, _-_, _*_, _^_, _<_, _≤_};
-ghost use lib.ListN.{length, getD, take, drop};
-ghost use Rattle.std.specs.Vec.{made};
-ghost use Rattle.sheet.specs.declared.limits.Limits.{Limits};
+ghost use mathlib.Core.List.{List};
+ghost use Prim.Native.Nat.{ℕ, _+_, _-_, _<_, _≤_};
+ghost use lib.ListN.{length, getD, drop};
+ghost use Rattle.text.specs.declared.limits.Limits.{Limits};
 ghost use Rattle.sheet.specs.Fields.{close-before, lines, Short};
 ghost use Rattle.sheet.specs.Places.{Reached};
-use crate::limits::Limits;
-use crate::limits::read_field;
-use fault::LineFault;
-use fault::LineFaultFromNumber;
+use text::LineFault;
+use text::LineFaultFromNumber;
+use text::limits::Limits;
+use text::limits::read_field;
 
 // Where the reading of a text has come: the next byte, and the line from 1, at whose start it is.
 #[derive(Clone, Copy)]
@@ -81,14 +80,14 @@ pub(crate) fn read_rows<R: Row>(
     let mut line = from.line;
     'text: {
         for i in 0..count {
-            let mut byte = 0;
+            let mut byte = 0u32;
             let mut numbers = [0u32; 5];
             for j in 0..limits.len() {
                 match read_field(&text[at..], limits[j], close_after(limits, j), byte) {
                     Ok(field) => {
                         numbers[j] = field.number;
                         at += field.len;
-                        byte += field.len;
+                        byte += field.len as u32;
                     }
                     Err(number) => break 'text Err(LineFault::from((line, number))),
                 }

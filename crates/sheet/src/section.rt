@@ -1,18 +1,16 @@
 // A section: the count of its lines on a line of its own, and then the lines.
-ghost use mathlib.Core.Path.{_≡_};
-ghost use mathlib.Core.List.{List, []};
-ghost use Prim.Native.Nat.{ℕ, _+_, _<_, _≤_};
+ghost use Prim.Native.Nat.{_+_, _<_, _≤_};
 ghost use lib.ListN.{length};
 ghost use Rattle.sheet.specs.Places.{Section-read};
-use crate::limits::Limits;
-use crate::limits::read_field;
 use crate::rows::Place;
 use crate::rows::Row;
 use crate::rows::read_rows;
 use bank::refusal::Refusal;
-use fault::LineFault;
-use fault::LineFaultFromNumber;
-use fault::at_place;
+use text::LineFault;
+use text::LineFaultFromNumber;
+use text::at_place;
+use text::limits::Limits;
+use text::limits::read_field;
 
 // What was read of a section: how many lines, and where the text goes on.
 #[derive(Clone, Copy)]

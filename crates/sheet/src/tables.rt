@@ -1,6 +1,5 @@
 // The tables of a sheet, read section by section.
-ghost use mathlib.Core.Path.{_≡_};
-ghost use Prim.Native.Nat.{ℕ, _≤_};
+ghost use Prim.Native.Nat.{_≤_};
 ghost use lib.ListN.{length};
 ghost use Rattle.sheet.specs.Tables.{Tables-read};
 use crate::records::Extent;
@@ -17,13 +16,13 @@ use bank::refusal::Refusal;
 use bank::ticket::Ticket;
 use calendar::Outage;
 use cooldown::Schedule;
-use fault::LineFault;
-use fault::LineFaultFromNumber;
-use fault::NumberFault;
-use fault::TextFault;
-use fault::TextFaultFromLine;
-use fault::at_place;
 use reserve::Window;
+use text::LineFault;
+use text::LineFaultFromNumber;
+use text::NumberFault;
+use text::TextFault;
+use text::TextFaultFromLine;
+use text::at_place;
 
 // The size of the bank, and how many lines each section has.
 #[derive(Clone, Copy)]

@@ -1,2 +1,4 @@
 pub mod Faults
 pub mod Parts
+pub mod Number
+pub mod Field

@@ -1,6 +1,6 @@
 use native.Mathlib.Omega.{arith}
-use Rattle.fault.proofs.LineParts.{within-none, within-more, within-all, line-over, line-closed}
-use Rattle.fault.proofs.line.line_end.Needs as need
+use Rattle.text.proofs.LineParts.{within-none, within-more, within-all, line-over, line-closed}
+use Rattle.text.proofs.line.line_end.Needs as need
 
 pub loop-at-holds : need.loop-at-holds
 loop-at-holds c = within-none (c .args .text .now) (c .args .start) (c .pre)

@@ -1,10 +1,15 @@
-// The faults of a text, and the place of each.
+// Texts of numbers: one field, and the faults of a text with the place of each.
 ghost use mathlib.Core.Path.{_≡_};
-ghost use Rattle.fault.specs.Faults.{fault-number, fault-place, tagged};
-ghost use Rattle.fault.specs.declared.ReadFault.the-variants.{At};
+ghost use Rattle.text.specs.Faults.{fault-number, fault-place, tagged};
+ghost use Rattle.text.specs.declared.ReadFault.the-variants.{At};
 use bank::refusal::Refusal;
 
+pub mod limits;
 mod line;
+pub mod number;
+
+// The most bytes that a text has.
+pub const MAX_TEXT: usize = 16384;
 
 // A field at fault: what is wrong, and its first byte in its line.
 #[derive(Clone, Copy)]
@@ -81,7 +86,7 @@ pub impl From<(usize, NumberFault)> for LineFault as LineFaultFromNumber {
     }
 }
 
-// A line's fault turns into the sheet's fault, given the section.
+// A line's fault turns into the text's fault, given the section.
 pub impl From<(u8, LineFault)> for TextFault as TextFaultFromLine {
     ghost converts = { λ f r. r ≡ record { section = f .0; line = f .1 } };
 

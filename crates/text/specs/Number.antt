@@ -5,7 +5,7 @@ use Prim.Native.Nat.{ℕ, _+_, _-_, _*_}
 use lib.Dec.{eqb, leb, ltb}
 use Rattle.std.specs.declared.option.Option.{Option}
 use Rattle.std.specs.declared.option.Option.the-variants.{Some, None}
-use Rattle.sheet.specs.declared.number.Field.{Field}
+use Rattle.text.specs.declared.number.Field.{Field}
 
 -- a space or a line's end closes a field
 abbrev pub closes : ℕ → Bool

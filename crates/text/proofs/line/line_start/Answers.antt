@@ -2,9 +2,9 @@ use mathlib.Core.Path.{sym, subst}
 use mathlib.Core.Logic.{inl, inr}
 use Prim.Native.Nat.{ℕ, _+_}
 use native.Mathlib.Omega.{arith}
-use Rattle.fault.proofs.LineParts.{Passing, passing-line, passing-byte, passed}
-use Rattle.fault.proofs.line.line_start.Needs as need
-use Rattle.fault.proofs.line.line_start.Needs.{then-text-at-eq10, else-text-at-eq10}
+use Rattle.text.proofs.LineParts.{Passing, passing-line, passing-byte, passed}
+use Rattle.text.proofs.line.line_start.Needs as need
+use Rattle.text.proofs.line.line_start.Needs.{then-text-at-eq10, else-text-at-eq10}
 
 pub loop-at-again : need.loop-at-again
 loop-at-again c =

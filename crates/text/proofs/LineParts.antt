@@ -10,7 +10,7 @@ use lib.Dec.{eqb}
 use lib.ListN.{length, getD, take, drop}
 use Rattle.std.proofs.shelf.Lists.{at-drop-more, at-drop-all, take-more, getD-drop, length-drop}
 use Rattle.std.proofs.shelf.Tests.{cond-true, cond-false, eq-eqb, ne-eqb}
-use Rattle.fault.specs.Parts.{first-line, later-lines, line-after}
+use Rattle.text.specs.Parts.{first-line, later-lines, line-after}
 
 pub none-left : (n : ℕ) → line-after n [] ≡ []
 none-left zero = refl

@@ -3,7 +3,7 @@ use mathlib.Core.Bool.{cond}
 use mathlib.Core.List.{List, [], _∷_}
 use Prim.Native.Nat.{ℕ, zero, suc, _-_}
 use lib.Dec.{eqb}
-use Rattle.fault.specs.declared.TextFault.{TextFault}
+use Rattle.text.specs.declared.TextFault.{TextFault}
 
 -- the bytes up to before the first byte 10
 abbrev pub first-line : List ℕ → List ℕ

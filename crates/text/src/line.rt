@@ -2,7 +2,7 @@
 ghost use mathlib.Core.Path.{_≡_};
 ghost use Prim.Native.Nat.{_-_, _≤_};
 ghost use lib.ListN.{drop, length, take};
-ghost use Rattle.fault.specs.Parts.{faulty-line, first-line, line-after, text-with};
+ghost use Rattle.text.specs.Parts.{faulty-line, first-line, line-after, text-with};
 use crate::TextFault;
 
 impl TextFault {

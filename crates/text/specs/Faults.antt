@@ -6,9 +6,9 @@ use Rattle.std.specs.declared.option.Option.the-variants.{Some, None}
 use Rattle.std.specs.declared.result.Result.{Result}
 use Rattle.std.specs.declared.result.Result.the-variants.{Ok, Err}
 use Rattle.bank.specs.Refusals.{refusal-number}
-use Rattle.fault.specs.declared.FaultPlace.{FaultPlace}
-use Rattle.fault.specs.declared.ReadFault.{ReadFault}
-use Rattle.fault.specs.declared.ReadFault.the-variants.{TextTooLong, ListTooShort, At}
+use Rattle.text.specs.declared.FaultPlace.{FaultPlace}
+use Rattle.text.specs.declared.ReadFault.{ReadFault}
+use Rattle.text.specs.declared.ReadFault.the-variants.{TextTooLong, ListTooShort, At}
 
 abbrev pub fault-number : ReadFault → ℕ
 fault-number TextTooLong = 14

@@ -13,8 +13,8 @@ use Rattle.std.proofs.shelf.Lists.{at-drop-more, at-drop-all}
 use Rattle.std.proofs.shelf.Tests.{cond-true, cond-false, eq-eqb, ne-eqb, or-left, or-right, or-from, and-parts, leb-true, ltb-true}
 use Rattle.std.specs.declared.option.Option.{Option}
 use Rattle.std.specs.declared.option.Option.the-variants.{Some, None}
-use Rattle.sheet.specs.declared.number.Field.{Field}
-use Rattle.sheet.specs.Number.{closes, continues, numeral}
+use Rattle.text.specs.declared.number.Field.{Field}
+use Rattle.text.specs.Number.{closes, continues, numeral}
 
 pub closes-by : (b : ℕ) → (b ≡ 32) ⊎ (((b ≡ 32) → ⊥) × (b ≡ 10)) → closes b ≡ true
 closes-by b h = ⊎-elim (λ e. or-left (eqb b 32) (eqb b 10) (eq-eqb b 32 e)) (λ e. or-right (eqb b 32) (eqb b 10) (eq-eqb b 10 (e .1))) h

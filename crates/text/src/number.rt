@@ -1,9 +1,9 @@
 // One field of a line: a decimal number and the byte that closes it.
 ghost use mathlib.Core.Path.{_≡_};
-ghost use Prim.Native.Nat.{ℕ, _+_, _-_, _*_, _<_, _≤_};
-ghost use lib.ListN.{length, getD, drop};
+ghost use Prim.Native.Nat.{_+_, _-_, _*_, _<_, _≤_};
+ghost use lib.ListN.{length};
 ghost use Rattle.std.specs.Slices.{found};
-ghost use Rattle.sheet.specs.Number.{numeral, continues};
+ghost use Rattle.text.specs.Number.{numeral, continues};
 
 // A number that was read: its value, how many bytes it takes with its close, and the byte that closes it.
 #[derive(Clone, Copy)]
