@@ -886,5 +886,361 @@ static TICKETS: [Faulty; 28] = [
     },
 ];
 
+// Scripts beside a sheet with four tickets.
+static SCRIPTS: [Faulty; 44] = [
+    // empty line
+    Faulty {
+        text: b"\n",
+        number: 15,
+        section: 9,
+        line: 1,
+        byte: 0,
+    },
+    // space and line end
+    Faulty {
+        text: b" \n",
+        number: 15,
+        section: 9,
+        line: 1,
+        byte: 0,
+    },
+    // unknown letter with a number
+    Faulty {
+        text: b"B 1\n",
+        number: 15,
+        section: 9,
+        line: 1,
+        byte: 0,
+    },
+    // small letter a
+    Faulty {
+        text: b"a 1\n",
+        number: 15,
+        section: 9,
+        line: 1,
+        byte: 0,
+    },
+    // number in place of the letter
+    Faulty {
+        text: b"1\n",
+        number: 15,
+        section: 9,
+        line: 1,
+        byte: 0,
+    },
+    // remark line
+    Faulty {
+        text: b"# admit\nA 1\n",
+        number: 15,
+        section: 9,
+        line: 1,
+        byte: 0,
+    },
+    // byte 255 before the letter
+    Faulty {
+        text: b"\xffS\n",
+        number: 15,
+        section: 9,
+        line: 1,
+        byte: 0,
+    },
+    // letter with its high bit set
+    Faulty {
+        text: b"\xd3\n",
+        number: 15,
+        section: 9,
+        line: 1,
+        byte: 0,
+    },
+    // admit without a number
+    Faulty {
+        text: b"A\n",
+        number: 15,
+        section: 9,
+        line: 1,
+        byte: 2,
+    },
+    // admit with an empty number
+    Faulty {
+        text: b"A \n",
+        number: 15,
+        section: 9,
+        line: 1,
+        byte: 2,
+    },
+    // admit without the space
+    Faulty {
+        text: b"A1\n",
+        number: 15,
+        section: 9,
+        line: 1,
+        byte: 0,
+    },
+    // admit as a word
+    Faulty {
+        text: b"ADMIT 1\n",
+        number: 15,
+        section: 9,
+        line: 1,
+        byte: 0,
+    },
+    // admit with a double space
+    Faulty {
+        text: b"A  1\n",
+        number: 15,
+        section: 9,
+        line: 1,
+        byte: 2,
+    },
+    // admit with a tab after the space
+    Faulty {
+        text: b"A \t1\n",
+        number: 15,
+        section: 9,
+        line: 1,
+        byte: 2,
+    },
+    // admit and text ends after a trailing space
+    Faulty {
+        text: b"A 1 ",
+        number: 15,
+        section: 9,
+        line: 1,
+        byte: 4,
+    },
+    // admit with a surplus letter
+    Faulty {
+        text: b"A 1 S\n",
+        number: 15,
+        section: 9,
+        line: 1,
+        byte: 4,
+    },
+    // admit number with a leading zero
+    Faulty {
+        text: b"A 01\n",
+        number: 15,
+        section: 9,
+        line: 1,
+        byte: 2,
+    },
+    // admit number a letter
+    Faulty {
+        text: b"A x\n",
+        number: 15,
+        section: 9,
+        line: 1,
+        byte: 2,
+    },
+    // admit number with a minus sign
+    Faulty {
+        text: b"A -1\n",
+        number: 15,
+        section: 9,
+        line: 1,
+        byte: 2,
+    },
+    // admit number with byte 0
+    Faulty {
+        text: b"A 1\0\n",
+        number: 15,
+        section: 9,
+        line: 1,
+        byte: 2,
+    },
+    // admit ticket 5 of 4
+    Faulty {
+        text: b"A 5\n",
+        number: 13,
+        section: 9,
+        line: 1,
+        byte: 2,
+    },
+    // admit ticket 5 unclosed
+    Faulty {
+        text: b"A 5",
+        number: 15,
+        section: 9,
+        line: 1,
+        byte: 2,
+    },
+    // admit ticket 5 before a trailing space
+    Faulty {
+        text: b"A 5 \n",
+        number: 13,
+        section: 9,
+        line: 1,
+        byte: 2,
+    },
+    // admit ticket 0 before a space and the end
+    Faulty {
+        text: b"A 0 ",
+        number: 13,
+        section: 9,
+        line: 1,
+        byte: 2,
+    },
+    // unknown letter before admit ticket 9
+    Faulty {
+        text: b"X\nA 9\n",
+        number: 15,
+        section: 9,
+        line: 1,
+        byte: 0,
+    },
+    // withdraw unclosed
+    Faulty {
+        text: b"W",
+        number: 15,
+        section: 9,
+        line: 1,
+        byte: 0,
+    },
+    // withdraw and text ends after the space
+    Faulty {
+        text: b"W ",
+        number: 15,
+        section: 9,
+        line: 1,
+        byte: 2,
+    },
+    // withdraw without the space
+    Faulty {
+        text: b"W7\n",
+        number: 15,
+        section: 9,
+        line: 1,
+        byte: 0,
+    },
+    // withdraw number with a leading zero
+    Faulty {
+        text: b"W 07\n",
+        number: 15,
+        section: 9,
+        line: 1,
+        byte: 2,
+    },
+    // withdraw number of seven digits
+    Faulty {
+        text: b"W 1000000\n",
+        number: 15,
+        section: 9,
+        line: 1,
+        byte: 2,
+    },
+    // withdraw with a surplus field
+    Faulty {
+        text: b"W 10000 5\n",
+        number: 15,
+        section: 9,
+        line: 1,
+        byte: 8,
+    },
+    // withdraw 0 with a surplus field
+    Faulty {
+        text: b"W 0 0\n",
+        number: 15,
+        section: 9,
+        line: 1,
+        byte: 4,
+    },
+    // finish step with a number
+    Faulty {
+        text: b"S 1\n",
+        number: 15,
+        section: 9,
+        line: 1,
+        byte: 2,
+    },
+    // finish step and text ends after the space
+    Faulty {
+        text: b"S ",
+        number: 15,
+        section: 9,
+        line: 1,
+        byte: 2,
+    },
+    // finish step twice on one line
+    Faulty {
+        text: b"SS\n",
+        number: 15,
+        section: 9,
+        line: 1,
+        byte: 0,
+    },
+    // finish step with a carriage return
+    Faulty {
+        text: b"S\r\n",
+        number: 15,
+        section: 9,
+        line: 1,
+        byte: 0,
+    },
+    // take back step unclosed
+    Faulty {
+        text: b"T",
+        number: 15,
+        section: 9,
+        line: 1,
+        byte: 0,
+    },
+    // take back step with a trailing space
+    Faulty {
+        text: b"T \n",
+        number: 15,
+        section: 9,
+        line: 1,
+        byte: 2,
+    },
+    // take back step joined to a letter
+    Faulty {
+        text: b"TS\n",
+        number: 15,
+        section: 9,
+        line: 1,
+        byte: 0,
+    },
+    // empty line in the middle
+    Faulty {
+        text: b"A 1\n\nS\n",
+        number: 15,
+        section: 9,
+        line: 2,
+        byte: 0,
+    },
+    // byte 0 after the last step
+    Faulty {
+        text: b"S\n\0",
+        number: 15,
+        section: 9,
+        line: 2,
+        byte: 0,
+    },
+    // last admit unclosed
+    Faulty {
+        text: b"A 1\nA 2",
+        number: 15,
+        section: 9,
+        line: 2,
+        byte: 2,
+    },
+    // fifth ticket on the fifth line
+    Faulty {
+        text: b"A 1\nA 2\nA 3\nA 4\nA 5\n",
+        number: 13,
+        section: 9,
+        line: 5,
+        byte: 2,
+    },
+    // withdraw any number then ticket 0
+    Faulty {
+        text: b"W 0\nW 999999\nA 0\n",
+        number: 13,
+        section: 9,
+        line: 3,
+        byte: 2,
+    },
+];
+
 #[cfg(test)]
 mod tests;

@@ -2,6 +2,7 @@
 use crate::Faulty;
 use crate::LINE_1;
 use crate::OUTAGES;
+use crate::SCRIPTS;
 use crate::TICKETS;
 use crate::WINDOWS_AND_COOL_DOWN;
 use bank::ticket::Ticket;
@@ -11,15 +12,17 @@ use calendar::Outage;
 use calendar::OutageDebug;
 use calendar::OutagePartialEq;
 use cooldown::Schedule;
-use fault::FaultPlace;
-use fault::FaultPlaceDebug;
-use fault::FaultPlacePartialEq;
 use reserve::Window;
 use reserve::WindowDebug;
 use reserve::WindowPartialEq;
+use script::Command;
+use script::read_script;
 use sheet::read_sheet;
 use sheet::write_sheet;
 use std::test::*;
+use text::FaultPlace;
+use text::FaultPlaceDebug;
+use text::FaultPlacePartialEq;
 
 const OUTAGE: Outage = Outage {
     core: 7,
@@ -177,4 +180,66 @@ fn a_sheet_is_read_and_written_again() -> Result<(), Fail> {
     check(length == WORKED.len() && length < 80)?;
     check(&out[0..length] == WORKED)?;
     check_eq(out[length], 7)
+}
+
+#[test]
+fn each_faulty_script_is_refused_at_its_place() -> Result<(), Fail> {
+    for faulty in &SCRIPTS {
+        match read_script(faulty.text, 4) {
+            Ok(_) => return Err(Fail::new("a faulty script is accepted")),
+            Err(fault) => {
+                check_eq(fault.number(), faulty.number)?;
+                let place = FaultPlace {
+                    section: faulty.section,
+                    line: faulty.line,
+                    byte: faulty.byte,
+                };
+                check_eq(fault.place(), Some(place))?;
+            }
+        }
+    }
+    Ok(())
+}
+
+// A letter and a number for each command.
+fn spelled(command: Option<Command>) -> (char, u32) {
+    match command {
+        Some(Command::Admit(ticket)) => ('A', ticket),
+        Some(Command::Withdraw(number)) => ('W', number),
+        Some(Command::Serve) => ('S', 0),
+        Some(Command::TakeBack) => ('T', 0),
+        None => ('.', 0),
+    }
+}
+
+#[test]
+fn a_script_hands_out_its_commands() -> Result<(), Fail> {
+    let Ok(mut script) = read_script(b"A 4\nW 999999\nS\nT\nA 1\n", 4) else {
+        return Err(Fail::new("refused"));
+    };
+    for expected in [
+        ('A', 4),
+        ('W', 999999),
+        ('S', 0),
+        ('T', 0),
+        ('A', 1),
+        ('.', 0),
+        ('.', 0),
+    ] {
+        check_eq(spelled(script.next()), expected)?;
+    }
+    Ok(())
+}
+
+#[test]
+fn an_empty_script_is_lawful_and_a_long_one_is_not() -> Result<(), Fail> {
+    let Ok(mut script) = read_script(b"", 0) else {
+        return Err(Fail::new("refused"));
+    };
+    check_eq(spelled(script.next()), ('.', 0))?;
+    let long = [b'x'; 16385];
+    match read_script(&long, 4) {
+        Ok(_) => Err(Fail::new("accepted")),
+        Err(fault) => check_eq(fault.number(), 14),
+    }
 }
