@@ -1,4 +1,6 @@
 // Banks of parity cores: how many cores are usable at each level in each slot, and which.
+#![tactic(auto)]
+
 ghost use Rattle.std.specs.Prelude.{◌≡◌};
 ghost use Rattle.bank.specs.Meaning.{Meaning, Rules, capacities_at, mark_after, Steady};
 

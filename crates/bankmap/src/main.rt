@@ -1,4 +1,6 @@
 // Which parity cores can a site count on, and when?
+#![tactic(auto)]
+
 use crate::site::Site;
 use crate::survey::{CoreState, Span, span_from};
 use anyhow::anyhow;

@@ -1,4 +1,6 @@
 // The banks for a benchmark program in another language: many questions by one call.
+#![tactic(auto)]
+
 ghost use Rattle.std.specs.Prelude.{◌≡◌};
 ghost use Rattle.bank.specs.Meaning.{mark_after};
 ghost use Rattle.bench_banks.specs.Bench.{Answers, core_or_none, full_pile};

@@ -1,4 +1,6 @@
 // The calendar bank: its cores are out of service by the rows of a table of the caller's.
+#![tactic(auto)]
+
 ghost use Rattle.std.specs.Prelude.{◌≡◌, ℕ, ◌<◌, take};
 ghost use Rattle.calendar.specs.Calendar.{calendar, out, outage_edge, takes_out};
 ghost use Rattle.calendar.specs.Cores.{bit};

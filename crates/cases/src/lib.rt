@@ -1,4 +1,6 @@
 // Worked examples of each kind of bank.
+#![tactic(auto)]
+
 ghost use Rattle.std.specs.Prelude.{◌≡◌, [], ◌∷◌};
 ghost use Rattle.cases.specs.Examples.{BankExamples, three_capacities};
 

@@ -1,4 +1,6 @@
 // The cool-down: a layer that limits the usable cores at the end of each period.
+#![tactic(auto)]
+
 ghost use Rattle.std.specs.Prelude.{◌≡◌, ◌%◌, ◌<◌, ◌≤◌, min, ◌&&◌, map, if◌then◌else◌, Some, None, nat_eq};
 ghost use Rattle.cooldown.specs.Cooldown.{cool_down, rest_edge, resting};
 ghost use Rattle.bank.specs.First.{first_above};

@@ -1,4 +1,6 @@
 // The host reserve: a layer that withholds cores of the bank below while its windows are in force.
+#![tactic(auto)]
+
 ghost use Rattle.std.specs.Prelude.{◌≡◌, ◌-◌, ◌≤◌, false, map, if◌then◌else◌, Some, None};
 ghost use Rattle.bank.specs.First.{first_above};
 ghost use Rattle.bank.specs.Interval.{any_by};

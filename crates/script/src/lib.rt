@@ -1,4 +1,6 @@
 // Scripts: a text of commands, one a line.
+#![tactic(auto)]
+
 ghost use Rattle.std.specs.Prelude.{◌≡◌, ◌+◌, ◌≤◌, true, length, drop, is_ok, IfOk, slice_index};
 ghost use Rattle.text.specs.Faults.{read_refusal};
 ghost use Rattle.text.specs.Number.{closes};

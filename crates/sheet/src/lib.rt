@@ -1,4 +1,6 @@
 // Sheets: a bank and its tickets as text, read and written.
+#![tactic(auto)]
+
 mod checks;
 mod output;
 mod reader;

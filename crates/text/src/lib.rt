@@ -1,4 +1,6 @@
 // Texts of numbers: one field, and the faults of a text with the place of each.
+#![tactic(auto)]
+
 ghost use Rattle.std.specs.Prelude.{◌≡◌};
 ghost use Rattle.text.specs.Faults.{fault_number, fault_place, tagged};
 ghost use Rattle.text.specs.declared.ReadFault.TheVariants.{At};
