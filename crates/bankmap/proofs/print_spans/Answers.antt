@@ -5,4 +5,4 @@ use Rattle.bankmap.proofs.print_spans.Goals as goal
 pub loop-from-smaller : goal.loop-from-smaller
 loop-from-smaller g c =
     let ahead = mark_ahead (g.B.Bank.means c.args.pile.now) c.loop-from.from (omega arith) in
-    omega (arith, c.span-from-span.ensures.to)
+    omega (arith, c.span_from-span.ensures.to)

@@ -4,4 +4,4 @@ use Rattle.bench_banks.specs.Bench.{Answers}
 use Rattle.bench_banks.proofs.pile_levels_each.Goals as goal
 
 pub returns : goal.returns
-returns c = subst (λ (m : Meaning). Answers (λ k. m.capacity k c.args.slot) 65 c.args.answers.now c.put-each.new.answers) c.full_pile.ensures c.put-each.ensures
+returns c = subst (λ (m : Meaning). Answers (λ k. m.capacity k c.args.slot) 65 c.args.answers.now c.put_each.new.answers) c.full_pile.ensures c.put_each.ensures

@@ -8,7 +8,7 @@ abbrev none : Outage
 none = record { core = 0; from = 0; to = 0 }
 
 pub loop-o-preserved : goal.loop-o-preserved
-loop-o-preserved c = word_more c.args.rows.now c.loop-o.o-index none c.args.slot c.loop-o.word c.bit-at-word.result (omega arith) c.loop-o.invariant c.bit-at-word.ensures
+loop-o-preserved c = word_more c.args.rows.now c.loop-o.o-index none c.args.slot c.loop-o.word c.bit_at-word.result (omega arith) c.loop-o.invariant c.bit_at-word.ensures
 
 pub returns : goal.returns
 returns c core h =

@@ -16,7 +16,7 @@ loop-o-init c = first_none (λ t. false) c.args.limit c.args.slot (λ s h k. ref
 pub loop-o-preserved : goal.loop-o-preserved
 loop-o-preserved c =
     first_any_step outage_edge c.args.rows.now c.loop-o.o-index none c.args.limit c.args.slot _ _ _
-    (omega arith) c.loop-o.invariant c.edge-after.ensures c.min-first.ensures
+    (omega arith) c.loop-o.invariant c.edge_after.ensures c.min-first.ensures
 
 pub returns : goal.returns
 returns c =

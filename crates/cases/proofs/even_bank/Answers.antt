@@ -4,4 +4,4 @@ use Rattle.cases.specs.Examples.{three_capacities}
 use Rattle.cases.proofs.even_bank.Goals as goal
 
 pub returns : goal.returns
-returns c = c.capacities-in.ensures ∙ ap (λ (m : Meaning). three_capacities m 2 0 1 5) c.new.ensures
+returns c = c.capacities_in.ensures ∙ ap (λ (m : Meaning). three_capacities m 2 0 1 5) c.new.ensures

@@ -6,5 +6,5 @@ use Rattle.cases.proofs.every_fourth_slot.Goals as goal
 
 pub returns : goal.returns
 returns c =
-    c.capacities-in.ensures ∙
+    c.capacities_in.ensures ∙
     ap (λ (m : Meaning). three_capacities m 2 2 3 4) (c.new-2.ensures.meaning ∙ ap (λ (m : Meaning). cool_down 4 1 1 m) c.new.ensures)

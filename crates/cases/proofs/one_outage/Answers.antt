@@ -4,4 +4,4 @@ use Rattle.cases.specs.Examples.{three_capacities}
 use Rattle.cases.proofs.one_outage.Goals as goal
 
 pub returns : goal.returns
-returns c = c.capacities-in.ensures ∙ ap (λ (m : Meaning). three_capacities m 1 1 2 4) c.new.ensures
+returns c = c.capacities_in.ensures ∙ ap (λ (m : Meaning). three_capacities m 1 1 2 4) c.new.ensures

@@ -5,10 +5,10 @@ use Rattle.script.specs.Script.{HandedOut}
 use Rattle.script.proofs.Scripts.{handed_none, handed_more, no_fault}
 use Rattle.script.proofs.first_line.Goals as goal
 
-pub returns-then-is-empty : goal.returns-then-is-empty
-returns-then-is-empty c accepted =
+pub returns-then-is_empty : goal.returns-then-is_empty
+returns-then-is_empty c accepted =
     let bs = c.args.text.now in
-    handed_none c.args.tickets bs (eqb-true (length bs) 0 (sym c.if-is-empty.ensures)) accepted
+    handed_none c.args.tickets bs (eqb-true (length bs) 0 (sym c.if-is_empty.ensures)) accepted
 
 pub returns-in-Ok : goal.returns-in-Ok
 returns-in-Ok c accepted =
@@ -22,6 +22,6 @@ returns-in-Ok c accepted =
 pub returns-in-Err : goal.returns-in-Err
 returns-in-Err c accepted =
     let bs = c.args.text.now in
-    let ne = eqb-false (length bs) 0 (sym c.if-is-empty.ensures) in
+    let ne = eqb-false (length bs) 0 (sym c.if-is_empty.ensures) in
     let some : 0 < length bs = grind arith in
     absurd (no_fault c.args.tickets bs c.in-Err.field-0 some (sym c.in-Err.ensures.reads) accepted)

@@ -9,4 +9,4 @@ pub returns : goal.returns
 returns g c =
     let bottom = g.A.Bank.means c.args.bottom.now in
     let pile = g.B.Bank.means c.args.pile.now in
-    c.with-cores.ensures ∙ ap (λ (below : List CoreState). with_state pile c.args.slot Usable below) c.with-cores-below.ensures ∙ states_of bottom pile c.args.slot
+    c.with_cores.ensures ∙ ap (λ (below : List CoreState). with_state pile c.args.slot Usable below) c.with_cores-below.ensures ∙ states_of bottom pile c.args.slot

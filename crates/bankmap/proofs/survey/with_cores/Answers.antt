@@ -2,7 +2,7 @@ use Rattle.std.proofs.Common.{◌≡◌, ◌+◌, List, sym, refl, ap, ◌∙◌
 use Rattle.bankmap.specs.declared.survey.CoreState.{CoreState}
 use Rattle.bankmap.proofs.States.{Changed, changed_none, changed_more, changed_all, top_core, core_below}
 use Rattle.bankmap.proofs.survey.with_cores.Goals as goal
-use Rattle.bankmap.proofs.survey.with_cores.Goals.{in-Some, in-default}
+use Rattle.bankmap.proofs.survey.with_cores.Goals.{in-Some, in_default}
 
 pub loop-lane-init : goal.loop-lane-init
 loop-lane-init g c = (omega arith, λ core h. refl)
@@ -23,7 +23,7 @@ loop-lane-preserved g c =
           let core_is = at_top ∙ w.in-Some.is in
           let small = core_below m (g.B.Bank.rules c.args.cores.now) c.args.slot lane w.in-Some.core core_is in
           moved (sym w.changed-is) (changed_more m c.args.slot c.args.state c.args.states lane w.in-Some.core c.loop-lane.changed core_is small c.loop-lane.invariant)
-      | in-default w ↦ moved (sym w.changed-is) (changed_none m c.args.slot c.args.state c.args.states lane c.loop-lane.changed (at_top ∙ w.in-default.is) c.loop-lane.invariant)
+      | in_default w ↦ moved (sym w.changed-is) (changed_none m c.args.slot c.args.state c.args.states lane c.loop-lane.changed (at_top ∙ w.in_default.is) c.loop-lane.invariant)
     ]
   where
     moved : {xs ys : List CoreState} → xs ≡ ys → Changed (g.B.Bank.means c.args.cores.now) c.args.slot c.args.state c.args.states (c.loop-lane.lane + 1) xs →

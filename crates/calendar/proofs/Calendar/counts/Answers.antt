@@ -6,7 +6,7 @@ pub returns-then-slot-self : goal.returns-then-slot-self
 returns-then-slot-self c =
     let b = c.args.self.now in
     c.counts.ensures ∙
-    word_counts b.rows.now b.size.slots b.size.top c.args.slot c.cores-out.result.word b.size.top_fit.1 c.cores-out.ensures c.if-slot-self.true
+    word_counts b.rows.now b.size.slots b.size.top c.args.slot c.cores_out.result.word b.size.top_fit.1 c.cores_out.ensures c.if-slot-self.true
 
 pub returns-else-slot-self : goal.returns-else-slot-self
 returns-else-slot-self c =

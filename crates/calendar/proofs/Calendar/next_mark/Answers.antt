@@ -5,4 +5,4 @@ use Rattle.calendar.proofs.Calendar.next_mark.Goals as goal
 pub returns : goal.returns
 returns c =
     let b = c.args.self.now in
-    c.outage-after.ensures ∙ calendar_mark b.rows.now b.size.slots b.size.top c.args.slot
+    c.outage_after.ensures ∙ calendar_mark b.rows.now b.size.slots b.size.top c.args.slot

@@ -8,5 +8,5 @@ returns g c =
     let m = g.B.Bank.means b.below in
     let p = b.cycle.period in
     let q = b.cycle.rest in
-    layer_first m (rested p q b.limit m) (rest_edge p q) c.args.slot c.mark_after.result c.edge-after.result c.slots.result c.min.result
-    c.min.ensures c.mark_after.ensures c.edge-after.ensures c.slots.ensures
+    layer_first m (rested p q b.limit m) (rest_edge p q) c.args.slot c.mark_after.result c.edge_after.result c.slots.result c.min.result
+    c.min.ensures c.mark_after.ensures c.edge_after.ensures c.slots.ensures

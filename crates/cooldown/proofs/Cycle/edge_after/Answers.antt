@@ -15,4 +15,4 @@ returns-then-self-eq0 c =
 pub returns : goal.returns
 returns c =
     rest_first c.args.self.now.period c.args.self.now.rest c.args.limit c.args.slot _ _ _
-    (omega arith) (omega arith) c.remainder-after-end.ensures c.remainder-after-begin.ensures c.min.ensures
+    (omega arith) (omega arith) c.remainder_after-end.ensures c.remainder_after-begin.ensures c.min.ensures

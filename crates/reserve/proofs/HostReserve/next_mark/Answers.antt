@@ -9,5 +9,5 @@ returns g c =
     let b = c.args.self.now in
     let m = g.B.Bank.means b.below in
     let ws = b.table.rows in
-    layer_first m (λ k t. m.capacity k t - withheld ws t) (λ t. any_by (window_edge t) ws) c.args.slot c.mark_after.result c.edge-after.result c.slots.result c.min.result
-    c.min.ensures c.mark_after.ensures c.edge-after.ensures c.slots.ensures
+    layer_first m (λ k t. m.capacity k t - withheld ws t) (λ t. any_by (window_edge t) ws) c.args.slot c.mark_after.result c.edge_after.result c.slots.result c.min.result
+    c.min.ensures c.mark_after.ensures c.edge_after.ensures c.slots.ensures

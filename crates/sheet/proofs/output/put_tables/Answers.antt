@@ -11,18 +11,18 @@ returns c =
     let w = write_section window_numbers c.args.windows.now in
     let d = write_section cool_down_numbers c.args.cool_downs.now in
     let t = write_section ticket_numbers c.args.tickets.now in
-    let end = c.put-section.new.out in
-    let to = c.put-section.result in
+    let end = c.put_section.new.out in
+    let to = c.put_section.result in
     record {
       within = search rules;
       wrote =
-          wrote_more c.args.out.now c.put-rows-head.new.out end 0 c.put-rows-head.result to a (o ++ (w ++ (d ++ t))) c.put-rows-head.ensures.wrote
-          (wrote_more c.put-rows-head.new.out c.put-section-first.new.out end c.put-rows-head.result c.put-section-first.result to o (w ++ (d ++ t)) c.put-section-first.ensures.wrote
-          (wrote_more c.put-section-first.new.out c.put-section-second.new.out end c.put-section-first.result c.put-section-second.result to w (d ++ t) c.put-section-second.ensures.wrote
-          (wrote_more c.put-section-second.new.out c.put-section-third.new.out end c.put-section-second.result c.put-section-third.result to d t c.put-section-third.ensures.wrote c.put-section.ensures.wrote)));
+          wrote_more c.args.out.now c.put_rows-head.new.out end 0 c.put_rows-head.result to a (o ++ (w ++ (d ++ t))) c.put_rows-head.ensures.wrote
+          (wrote_more c.put_rows-head.new.out c.put_section-first.new.out end c.put_rows-head.result c.put_section-first.result to o (w ++ (d ++ t)) c.put_section-first.ensures.wrote
+          (wrote_more c.put_section-first.new.out c.put_section-second.new.out end c.put_section-first.result c.put_section-second.result to w (d ++ t) c.put_section-second.ensures.wrote
+          (wrote_more c.put_section-second.new.out c.put_section-third.new.out end c.put_section-second.result c.put_section-third.result to d t c.put_section-third.ensures.wrote c.put_section.ensures.wrote)));
     }
 
-pub put-section-requires : goal.put-section-requires
-put-section-requires c =
+pub put_section-requires : goal.put_section-requires
+put_section-requires c =
     let few : length c.args.tickets.now ≤ 64 = search rules in
     (search rules, (few, search rules))

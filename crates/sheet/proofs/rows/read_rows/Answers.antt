@@ -16,7 +16,7 @@ loop-j-preserved g c =
     let ls = c.limits-limits.result.now in
     let text = c.args.text.now in
     let told = c.in-Ok.ensures in
-    let here = field_at ls text c.loop-j.j c.loop-j.at c.close-after.result c.loop-j.byte (Ok c.in-Ok.field) told.reads c.close-after.ensures in
+    let here = field_at ls text c.loop-j.j c.loop-j.at c.close_after.result c.loop-j.byte (Ok c.in-Ok.field) told.reads c.close_after.ensures in
     line_more ls text c.loop-i.at c.loop-j.j c.loop-j.at c.loop-j.byte c.loop-j.numbers c.loop-j.invariant c.loop-j-test.true c.in-Ok.field here
     (omega (arith, told.within.0, ap length (take_rest text c.loop-j.at))) told.within.1
     (omega (arith, c.loop-j-test.true, ap length c.limits-limits.ensures, g.met.R.Row.few))
@@ -25,14 +25,14 @@ pub returns-in-Err : goal.returns-in-Err
 returns-in-Err g c =
     let ls = c.limits-limits.result.now in
     let text = c.args.text.now in
-    let here = field_at ls text c.loop-j.j c.loop-j.at c.close-after.result c.loop-j.byte (Err c.in-Err.number) c.in-Err.ensures.reads c.close-after.ensures in
+    let here = field_at ls text c.loop-j.j c.loop-j.at c.close_after.result c.loop-j.byte (Err c.in-Err.number) c.in-Err.ensures.reads c.close_after.ensures in
     let line = line_fault ls text c.loop-i.at c.loop-j.j c.loop-j.at c.loop-j.byte c.loop-j.numbers c.loop-j.invariant c.loop-j-test.true c.in-Err.number here in
     let told : Reached g.R.Row.table g.R.Row.make text c.args.from c.args.count c.args.rows.now c.loop-i.rows (Err (record { line = c.loop-i.line; number = c.in-Err.number })) = subst (λ t. Reached t g.R.Row.make text c.args.from c.args.count c.args.rows.now c.loop-i.rows (Err (record { line = c.loop-i.line; number = c.in-Err.number }))) c.limits-limits.ensures
     (rows_fault ls g.R.Row.make text c.args.from.at c.args.from.line c.args.count c.args.rows.now c.loop-i.i c.loop-i.at c.loop-i.line c.loop-i.rows c.loop-i.invariant c.loop-i-test.true c.in-Err.number line) in
     told ∙ ap Err (sym c.from.ensures)
 
-pub from-numbers-requires : goal.from-numbers-requires
-from-numbers-requires g c =
+pub from_numbers-requires : goal.from_numbers-requires
+from_numbers-requires g c =
     let few = g.met.R.Row.few in
     let long = ap length c.limits-limits.ensures in
     length-take-le (length c.limits-limits.result.now - 0) c.loop-j.numbers (omega (arith, c.loop-j.invariant.room)) ∙ (omega arith)
@@ -43,7 +43,7 @@ loop-i-preserved g c =
     let text = c.args.text.now in
     let line = line_all ls text c.loop-i.at c.loop-j.j c.loop-j.at c.loop-j.byte c.loop-j.numbers c.loop-j.invariant c.loop-j-test.false in
     let full : length ls - 0 ≡ c.loop-j.j = omega (arith, c.loop-j-test.false, c.loop-j.auto.j-end) in
-    let made = c.from-numbers.ensures ∙ ap (λ n. g.R.Row.make (take n c.loop-j.numbers)) full in
+    let made = c.from_numbers.ensures ∙ ap (λ n. g.R.Row.make (take n c.loop-j.numbers)) full in
     subst (λ r. InRows ls g.R.Row.make text c.args.from.at c.args.from.line c.args.count c.args.rows.now (c.loop-i.i + 1) c.loop-j.at (c.loop-i.line + 1) (set c.loop-i.rows c.loop-i.i r)) (sym made)
     (rows_more ls g.R.Row.make text c.args.from.at c.args.from.line c.args.count c.args.rows.now c.loop-i.i c.loop-i.at c.loop-i.line c.loop-i.rows c.loop-i.invariant c.loop-i-test.true (take c.loop-j.j c.loop-j.numbers) c.loop-j.at line c.loop-j.invariant.within (omega arith))
 

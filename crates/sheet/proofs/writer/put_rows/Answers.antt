@@ -8,8 +8,8 @@ use Rattle.sheet.proofs.writer.put_rows.Goals as goal
 pub loop-i-init : goal.loop-i-init
 loop-i-init g c = (wrote_none c.args.out.now c.args.at, omega arith)
 
-pub put-row-to-requires : goal.put-row-to-requires
-put-row-to-requires g c = (
+pub put_row-to-requires : goal.put_row-to-requires
+put_row-to-requires g c = (
   omega (arith, c.loop-i.invariant.1, c.loop-i.auto.out, c.loop-i-test.true, c.requires.0),
   subst (λ x. fits g.R.Row.table (g.R.Row.numbers x) ≡ true) (sym c.index-rows-i.is) (every_at (λ x. fits g.R.Row.table (g.R.Row.numbers x)) c.args.rows.now c.loop-i.i c.index-rows-i.result c.requires.1 c.loop-i-test.true),
 )
@@ -18,10 +18,10 @@ pub loop-i-preserved : goal.loop-i-preserved
 loop-i-preserved g c =
     let before = write_lines g.R.Row.numbers (take c.loop-i.i c.args.rows.now) in
     let line = write_line (g.R.Row.numbers c.index-rows-i.result) in (
-      wrote_as c.args.out.now c.put-row-to.new.out c.args.at c.put-row-to.result _ _
+      wrote_as c.args.out.now c.put_row-to.new.out c.args.at c.put_row-to.result _ _
           (ap (λ x. before ++ write_line (g.R.Row.numbers x)) c.index-rows-i.is ∙ lines_more g.R.Row.numbers c.args.rows.now c.loop-i.i c.index-rows-i.result c.loop-i-test.true)
-          (wrote_more c.args.out.now c.loop-i.out c.put-row-to.new.out c.args.at c.loop-i.to c.put-row-to.result before line c.loop-i.invariant.0 c.put-row-to.ensures.wrote),
-      omega (arith, c.loop-i.invariant.1, c.put-row-to.ensures.within),
+          (wrote_more c.args.out.now c.loop-i.out c.put_row-to.new.out c.args.at c.loop-i.to c.put_row-to.result before line c.loop-i.invariant.0 c.put_row-to.ensures.wrote),
+      omega (arith, c.loop-i.invariant.1, c.put_row-to.ensures.within),
     )
 
 pub returns : goal.returns

@@ -5,16 +5,16 @@ use Rattle.sheet.proofs.Writes.{wrote_more, wrote_as}
 use Rattle.sheet.proofs.writer.put_section.Given as given
 use Rattle.sheet.proofs.writer.put_section.Goals as goal
 
-pub put-number-close-requires : goal.put-number-close-requires
-put-number-close-requires g c = omega (arith, length-decimal-le 6 (length c.args.rows.now) (omega arith) (omega (arith, c.requires.1.0)) (omega arith))
+pub put_number-close-requires : goal.put_number-close-requires
+put_number-close-requires g c = omega (arith, length-decimal-le 6 (length c.args.rows.now) (omega arith) (omega (arith, c.requires.1.0)) (omega arith))
 
-pub put-byte-first-requires : goal.put-byte-first-requires
-put-byte-first-requires g c =
-    omega (arith, length-decimal-le 6 (length c.args.rows.now) (omega arith) (omega (arith, c.requires.1.0)) (omega arith), c.put-number-close.ensures.ends, c.put-number-close.auto.out)
+pub put_byte-first-requires : goal.put_byte-first-requires
+put_byte-first-requires g c =
+    omega (arith, length-decimal-le 6 (length c.args.rows.now) (omega arith) (omega (arith, c.requires.1.0)) (omega arith), c.put_number-close.ensures.ends, c.put_number-close.auto.out)
 
-pub put-rows-requires : goal.put-rows-requires
-put-rows-requires g c = (
-  omega (arith, length-decimal-le 6 (length c.args.rows.now) (omega arith) (omega (arith, c.requires.1.0)) (omega arith), c.put-number-close.ensures.ends, c.put-number-close.auto.out, c.put-byte-first.ensures.ends, c.put-byte-first.auto.out),
+pub put_rows-requires : goal.put_rows-requires
+put_rows-requires g c = (
+  omega (arith, length-decimal-le 6 (length c.args.rows.now) (omega arith) (omega (arith, c.requires.1.0)) (omega arith), c.put_number-close.ensures.ends, c.put_number-close.auto.out, c.put_byte-first.ensures.ends, c.put_byte-first.auto.out),
   c.requires.1.1,
 )
 
@@ -23,8 +23,8 @@ returns g c =
     let count = decimal (length c.args.rows.now) in
     record {
       wrote =
-          wrote_more c.args.out.now c.put-byte-first.new.out c.put-rows.new.out c.args.at c.put-byte-first.result c.put-rows.result (count ++ 10 ∷ []) (write_lines g.R.Row.numbers c.args.rows.now)
-          (wrote_more c.args.out.now c.put-number-close.new.out c.put-byte-first.new.out c.args.at c.put-number-close.result c.put-byte-first.result count (10 ∷ []) c.put-number-close.ensures c.put-byte-first.ensures)
-          c.put-rows.ensures.wrote;
-      within = omega (arith, length-decimal-le 6 (length c.args.rows.now) (omega arith) (omega (arith, c.requires.1.0)) (omega arith), c.put-number-close.ensures.ends, c.put-byte-first.ensures.ends, c.put-rows.ensures.within);
+          wrote_more c.args.out.now c.put_byte-first.new.out c.put_rows.new.out c.args.at c.put_byte-first.result c.put_rows.result (count ++ 10 ∷ []) (write_lines g.R.Row.numbers c.args.rows.now)
+          (wrote_more c.args.out.now c.put_number-close.new.out c.put_byte-first.new.out c.args.at c.put_number-close.result c.put_byte-first.result count (10 ∷ []) c.put_number-close.ensures c.put_byte-first.ensures)
+          c.put_rows.ensures.wrote;
+      within = omega (arith, length-decimal-le 6 (length c.args.rows.now) (omega arith) (omega (arith, c.requires.1.0)) (omega arith), c.put_number-close.ensures.ends, c.put_byte-first.ensures.ends, c.put_rows.ensures.within);
     }

@@ -4,4 +4,4 @@ use Rattle.calendar.proofs.Words.{ones_and_clear}
 use Rattle.calendar.proofs.word.CoresOut.usable_below.Goals as goal
 
 pub returns : goal.returns
-returns c = omega (arith, ap ones c.low-bits.ensures, ones_and_clear c.args.self.word c.args.level)
+returns c = omega (arith, ap ones c.low_bits.ensures, ones_and_clear c.args.self.word c.args.level)

@@ -4,8 +4,8 @@ use Rattle.calendar.specs.Cores.{bit, usable}
 use Rattle.calendar.specs.Laws.Usable.{lane_core}
 use Rattle.calendar.proofs.word.CoresOut.usable_core.Goals as goal
 
-pub returns-then-lane-usable-below : goal.returns-then-lane-usable-below
-returns-then-lane-usable-below c = sym (slice_get_past (usable (bit c.args.self.word) c.args.level) c.args.lane (omega arith))
+pub returns-then-lane-usable_below : goal.returns-then-lane-usable_below
+returns-then-lane-usable_below c = sym (slice_get_past (usable (bit c.args.self.word) c.args.level) c.args.lane (omega arith))
 
 pub returns : goal.returns
 returns c =

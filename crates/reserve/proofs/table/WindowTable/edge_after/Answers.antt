@@ -16,7 +16,7 @@ loop-w-init c = first_none (λ t. false) c.args.limit c.args.slot (λ s h k. ref
 pub loop-w-preserved : goal.loop-w-preserved
 loop-w-preserved c =
     first_any_step window_edge c.args.self.now.rows c.loop-w.w-index none c.args.limit c.args.slot _ _ _
-    (omega arith) c.loop-w.invariant c.edge-after.ensures c.min-first.ensures
+    (omega arith) c.loop-w.invariant c.edge_after.ensures c.min-first.ensures
 
 pub returns : goal.returns
 returns c =
