@@ -9,8 +9,8 @@ use Rattle.calendar.proofs.word.CoresOut.counts.Goals.{then-not-is_out, else-not
 pub loop-core-init : goal.loop-core-init
 loop-core-init c = (refl, up_to_none (λ k. length (usable (bit c.args.self.word) k)) 65 refl)
 
-pub overflow-add-count : goal.overflow-add-count
-overflow-add-count c = omega (arith, usable_length (bit c.args.self.word) c.loop-core.core)
+pub overflow_add-count : goal.overflow_add-count
+overflow_add-count c = omega (arith, usable_length (bit c.args.self.word) c.loop-core.core)
 
 pub loop-core-preserved : goal.loop-core-preserved
 loop-core-preserved c =

@@ -20,13 +20,11 @@ loop-w-preserved c =
 filled : (c : goal.After-loop-w) → c.loop-w.w-items ≡ map clamped c.args.windows
 filled c = map_over_end clamped c.args.windows c.loop-w.w-items c.loop-w.w-index (omega arith) c.loop-w.invariant.1
 
-pub invariant-of-result : goal.invariant-of-result
-invariant-of-result c =
+pub invariant_of-result : goal.invariant_of-result
+invariant_of-result c =
     let e = filled c in
-    let n : length (map clamped c.args.windows) ≡ 8 = length-map c.args.windows clamped ∙ omega arith in (
-      ap length e ∙ n,
-      (ap table_fits e ∙ all_by_map window_fits clamped clamped_fits c.args.windows, tt),
-    )
+    let n : length (map clamped c.args.windows) ≡ 8 = length-map c.args.windows clamped ∙ omega arith in
+    record { sized = ap length e ∙ n; fit = ap table_fits e ∙ all_by_map window_fits clamped clamped_fits c.args.windows }
 
 pub returns : goal.returns
 returns c = map_over_end clamped c.args.windows c.loop-w.w-items c.loop-w.w-index (omega arith) c.loop-w.invariant.1

@@ -8,8 +8,8 @@ use Rattle.reserve.proofs.table.WindowTable.withheld.Goals as goal
 abbrev none : Window
 none = record { from = 0; to = 0; count = 0 }
 
-pub overflow-add-sum : goal.overflow-add-sum
-overflow-add-sum c =
+pub overflow_add-sum : goal.overflow_add-sum
+overflow_add-sum c =
     let h = held_fits c.args.self.now.rows c.loop-w.w-index none c.args.slot c.args.self.now.fit (omega arith) in
     omega arith
 
