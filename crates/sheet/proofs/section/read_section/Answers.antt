@@ -6,7 +6,7 @@ use Rattle.sheet.proofs.section.read_section.Goals as goal
 
 pub returns-in_err-field : goal.returns-in_err-field
 returns-in_err-field g c =
-    let p = err_from_is_err_and c.from-residual.result c.from-residual.ensures.1 in
+    let p = err_from_is_err_and c.from_residual.result c.from_residual.ensures.1 in
     let q = tagged_err c.args.from.line c.read_field.result c.at_place.result c.in_err-field.field-0.0 c.at_place.ensures c.in_err-field.was in
     let count = count_at g.R.Row.most g.R.Row.table g.R.Row.make c.args.text.now c.args.from.at c.args.from.line c.most.result c.read_field.result c.read_field.ensures.reads c.most.ensures in
     rw (p.1, p.2)
@@ -15,7 +15,7 @@ returns-in_err-field g c =
 
 pub returns-in_err-next : goal.returns-in_err-next
 returns-in_err-next g c =
-    let p = err_from_is_err_and c.from-residual-in_err-next.result c.from-residual-in_err-next.ensures.1 in
+    let p = err_from_is_err_and c.from_residual-in_err-next.result c.from_residual-in_err-next.ensures.1 in
     let count = count_at g.R.Row.most g.R.Row.table g.R.Row.make c.args.text.now c.args.from.at c.args.from.line c.most.result c.read_field.result c.read_field.ensures.reads c.most.ensures in
     let f = tagged_ok c.args.from.line c.read_field.result c.at_place.result c.in_ok-field.field c.at_place.ensures c.in_ok-field.was in
     rw (p.1, p.2)
