@@ -1,5 +1,5 @@
 -- Capacities rise with the level.
-use Rattle.std.proofs.Common.{◌≡◌, ℕ, zero, suc, ◌+◌, ◌-◌, ◌<◌, ◌≤◌, ap, add-zero, arith}
+use Rattle.std.proofs.Common.{◌≡◌, ℕ, zero, suc, ◌+◌, ◌-◌, ◌≤◌, ap, add-zero, arith}
 use Rattle.bank.specs.Meaning.{Meaning, Rules}
 
 rises_by : (m : Meaning) → Rules m → (t k d : ℕ) → k + d ≤ m.top → m.capacity k t ≤ m.capacity (k + d) t

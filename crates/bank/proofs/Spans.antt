@@ -1,5 +1,5 @@
 -- From a slot up to the next mark every capacity and core stays.
-use Rattle.std.proofs.Common.{◌≡◌, ℕ, zero, suc, ◌+◌, ◌-◌, ◌<◌, ◌≤◌, sym, refl, ap, ◌∙◌, arith}
+use Rattle.std.proofs.Common.{◌≡◌, ℕ, zero, suc, ◌+◌, ◌-◌, ◌<◌, sym, ap, ◌∙◌, arith}
 use Rattle.bank.specs.Meaning.{Meaning, Rules, mark_after, Steady}
 use Rattle.bank.proofs.Firsts.{First, above_first}
 

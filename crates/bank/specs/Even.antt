@@ -1,5 +1,5 @@
 -- The even bank: at level k every slot has the cores 0 to k - 1, lane i is core i, and no slot is marked.
-use Rattle.std.specs.Prelude.{ℕ, true, false, cond, ◌&&◌, Some, None, nat_lt}
+use Rattle.std.specs.Prelude.{ℕ, false, cond, Some, None, nat_lt}
 use Rattle.bank.specs.Limits.{in_bank}
 use Rattle.bank.specs.Meaning.{Meaning}
 

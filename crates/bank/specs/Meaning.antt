@@ -1,7 +1,7 @@
 -- What a bank of parity cores means, and the rules that every kind of bank keeps.
 -- A slot is the unit of time, counted from 0. At level k the cores 0 to k - 1 are powered. A lane is a place among the
 -- usable cores, counted from 0.
-use Rattle.std.specs.Prelude.{◌≡◌, ℕ, ◌+◌, ◌<◌, ◌≤◌, Bool, true, false, List, map, is_some, Some, None, Option, nat_lt}
+use Rattle.std.specs.Prelude.{◌≡◌, ℕ, ◌+◌, ◌<◌, ◌≤◌, Bool, false, List, map, is_some, Some, Option, nat_lt}
 use Rattle.std.specs.List.{range_with_len}
 use Rattle.bank.specs.First.{first_above}
 

@@ -1,9 +1,8 @@
 -- One byte more of a number.
-use Rattle.std.proofs.Common.{◌≡◌, ℕ, ◌+◌, ◌-◌, ◌*◌, ◌^◌, ◌<◌, ◌≤◌, Bool, true, false, cond, eqb, ◌⊎◌, List, [], ◌∷◌, length, get_or, drop, Some, None, Option, sym, refl, ap, ◌∙◌, inl, inr, ⊎_elim, add-one, arith}
+use Rattle.std.proofs.Common.{◌≡◌, ℕ, ◌+◌, ◌-◌, ◌*◌, ◌^◌, ◌<◌, ◌≤◌, true, false, eqb, ◌⊎◌, List, ◌∷◌, length, get_or, drop, Some, None, sym, ◌∙◌, ⊎_elim, add-one, arith}
 use native.Mathlib.Nat.{pow-succ'}
 use Rattle.std.proofs.lemmas.List.{at_drop_more, at_drop_all}
 use Rattle.std.proofs.lemmas.Bool.{cond-true, cond-false, eq-eqb, ne_eqb, or_left, or_right, or_from, and_parts, leb-true, ltb-true}
-use Rattle.text.specs.declared.number.Field.{Field}
 use Rattle.text.specs.Number.{closes, continues, numeral}
 
 pub closes_by : (b : ℕ) → (b ≡ 32) ⊎ (((b ≡ 32) → ⊥) × (b ≡ 10)) → closes b ≡ true

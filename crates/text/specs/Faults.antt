@@ -1,5 +1,5 @@
 -- The faults of a text, by number and place.
-use Rattle.std.specs.Prelude.{ℕ, List, [], ◌∷◌, Some, None, Ok, Err, Option, Result}
+use Rattle.std.specs.Prelude.{ℕ, Some, None, Ok, Err, Option, Result}
 use Rattle.bank.specs.Refusals.{refusal_number}
 use Rattle.text.specs.declared.FaultPlace.{FaultPlace}
 use Rattle.text.specs.declared.ReadFault.{ReadFault}

@@ -1,4 +1,4 @@
-use Rattle.std.proofs.Common.{◌≡◌, eqb, ◌∙◌, arith}
+use Rattle.std.proofs.Common.{eqb}
 use Rattle.bank.proofs.Firsts.{first_or}
 use Rattle.bank.proofs.interval.either_after.Goals as goal
 

@@ -1,4 +1,4 @@
-use Rattle.std.proofs.Common.{ℕ, ◌+◌, sym, subst, inl, inr, arith}
+use Rattle.std.proofs.Common.{ℕ, ◌+◌, sym, subst, inl, arith}
 use Rattle.text.proofs.LineParts.{Passing, passing_line, passing_byte, passed}
 use Rattle.text.proofs.line.line_start.Goals as goal
 use Rattle.text.proofs.line.line_start.Goals.{then-text-at-eq10, else-text-at-eq10}
