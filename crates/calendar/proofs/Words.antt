@@ -1,9 +1,9 @@
 -- Words of bits: what `|` and `1 <<` make of the bits, and how many of the lowest are clear.
-use Rattle.std.proofs.Common.{◌≡◌, ℕ, zero, suc, ◌+◌, ◌-◌, ◌*◌, ◌/◌, ◌%◌, ◌^◌, ◌<◌, ◌≤◌, max, Bool, true, false, ◌||◌, eqb, length, sym, refl, ap, ◌∙◌, ⊎_elim, add-zero, pow-suc, add-one, one-add, arith}
+use Rattle.std.proofs.Common.{◌≡◌, ℕ, zero, suc, ◌+◌, ◌-◌, ◌*◌, ◌/◌, ◌%◌, ◌^◌, ◌<◌, max, ◌||◌, eqb, length, sym, refl, ap, ◌∙◌, ⊎_elim, add-zero, pow-suc, add-one, one-add, arith}
 use native.Mathlib.Nat.{div-eq_of_lt, div_self}
-use lib.Bits.{bit_or, bit_and, or_step, or_shr}
+use lib.Bits.{bit_or, or_step, or_shr}
 use lib.Count.{ones, ones_cat, ones-ones}
-use Rattle.std.proofs.lemmas.Nat.{pow_pos, pow-add, pow_below, shl-shr, mod-pow-add, mod-mul-add, mod_below, and_mask, one_shl}
+use Rattle.std.proofs.lemmas.Nat.{pow_pos, pow-add, pow_below, shl-shr, mod-pow-add, mod-mul-add, mod_below}
 use Rattle.std.proofs.lemmas.Bool.{cases_Bool, cases_order, eq-eqb, ne_eqb, eqb-true, eqb-false}
 use Rattle.std.proofs.lemmas.Bool.Decides.{nat_tests}
 use Rattle.calendar.specs.Cores.{bit, usable}

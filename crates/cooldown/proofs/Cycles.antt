@@ -1,12 +1,12 @@
 -- Slots by their remainder in a period.
-use Rattle.std.proofs.Common.{◌≡◌, ℕ, zero, suc, ◌+◌, ◌-◌, ◌*◌, ◌/◌, ◌%◌, ◌<◌, ◌≤◌, min, Bool, true, false, cond, ◌&&◌, ◌||◌, eqb, ltb, leb, ◌⊎◌, sym, refl, ap, ◌∙◌, subst, inl, inr, ⊎_elim, mul-le-mul_right, mod-lt, add-mul, div-add-mod', arith}
+use Rattle.std.proofs.Common.{◌≡◌, ℕ, ◌+◌, ◌-◌, ◌*◌, ◌/◌, ◌%◌, ◌<◌, ◌≤◌, min, ◌||◌, eqb, sym, ◌∙◌, ⊎_elim, mul-le-mul_right, mod-lt, add-mul, div-add-mod', arith}
 use native.Mathlib.Nat.{add-mod_right}
 use lib.Arith.{digits_mod}
-use Rattle.std.proofs.lemmas.Bool.{cases_lt, cases_eq, eqb-true, eq-eqb, ne_eqb, lt-ltb}
+use Rattle.std.proofs.lemmas.Bool.{cases_lt, eq-eqb, ne_eqb, lt-ltb}
 use Rattle.std.proofs.lemmas.Bool.Decides.{nat_tests}
 use Rattle.cooldown.specs.Cooldown.{rest_edge}
 use Rattle.bank.specs.First.{first_above}
-use Rattle.bank.proofs.Firsts.{First, first_is, first_none, first_or, first_same}
+use Rattle.bank.proofs.Firsts.{first_is, first_none, first_or, first_same}
 
 -- two numbers less than a period apart have different remainders
 apart : (a b p : ℕ) → a < b → b < a + p → a % p ≡ b % p → ⊥

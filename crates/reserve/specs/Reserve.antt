@@ -1,5 +1,5 @@
 -- The host reserve: a layer whose windows each withhold some cores for a while.
-use Rattle.std.specs.Prelude.{ℕ, ◌+◌, ◌-◌, min, Bool, true, false, cond, ◌&&◌, ◌||◌, List, [], ◌∷◌, sum_by, nat_le, nat_lt, slice_set}
+use Rattle.std.specs.Prelude.{ℕ, ◌-◌, min, Bool, cond, ◌&&◌, List, sum_by, nat_le, nat_lt, slice_set}
 use Rattle.bank.specs.Interval.{within, edge_of, any_by, all_by}
 use Rattle.bank.specs.Layer.{layer}
 use Rattle.bank.specs.Meaning.{Meaning}

@@ -1,12 +1,12 @@
 -- Scripts, line by line.
-use Rattle.std.proofs.Common.{◌≡◌, ℕ, zero, suc, ◌+◌, ◌<◌, ◌≤◌, Bool, true, false, cond, eqb, List, [], ◌∷◌, length, drop, is_ok, IfOk, Some, None, Ok, Err, Result, sym, refl, ap, ◌∙◌, subst, arith, length-drop}
+use Rattle.std.proofs.Common.{◌≡◌, ℕ, zero, suc, ◌+◌, ◌<◌, ◌≤◌, Bool, true, false, eqb, List, [], ◌∷◌, length, drop, is_ok, IfOk, Some, None, Ok, Err, Result, sym, refl, ap, ◌∙◌, subst, arith, length-drop}
 use Rattle.std.proofs.lemmas.Bool.{cond_both}
 use Rattle.text.specs.Field.{and_then, on_line}
 use Rattle.text.specs.Number.{closes}
 use Rattle.text.specs.declared.LineFault.{LineFault}
 use Rattle.text.specs.declared.NumberFault.{NumberFault}
 use Rattle.text.specs.declared.number.Field.{Field}
-use Rattle.script.specs.Script.{fault_at, numbered, alone, by_letter, command_line, before, commands, script, accepted_commands, left_of, HandedOut}
+use Rattle.script.specs.Script.{numbered, alone, by_letter, command_line, before, commands, script, accepted_commands, left_of, HandedOut}
 use Rattle.script.specs.declared.Command.{Command}
 use Rattle.script.specs.declared.Step.{Step}
 

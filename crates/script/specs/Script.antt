@@ -1,5 +1,5 @@
 -- Scripts: a text of commands, one a line.
-use Rattle.std.specs.Prelude.{◌≡◌, ℕ, zero, suc, ◌+◌, Bool, true, cond, List, [], ◌∷◌, length, drop, is_ok, Some, None, Ok, Err, Option, Result, ◌==◌, nat_lt}
+use Rattle.std.specs.Prelude.{◌≡◌, ℕ, zero, suc, ◌+◌, true, cond, List, [], ◌∷◌, length, drop, is_ok, Some, None, Ok, Err, Option, Result, ◌==◌, nat_lt}
 use Rattle.bank.specs.declared.refusal.Refusal.TheVariants.{NotInFormat, NoSuchTicket}
 use Rattle.text.specs.Faults.{Refused, refused_by}
 use Rattle.text.specs.Field.{field, and_then, on_line}

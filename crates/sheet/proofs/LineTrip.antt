@@ -1,8 +1,8 @@
 -- Lines and sections that are written are read back, and those that are read are written back.
-use Rattle.std.proofs.Common.{◌≡◌, ℕ, zero, suc, ◌+◌, ◌-◌, ◌*◌, ◌^◌, ◌<◌, ◌≤◌, Bool, true, false, cond, ◌&&◌, eqb, leb, ◌⊎◌, List, [], ◌∷◌, ◌++◌, length, get_or, drop, Some, None, Ok, Err, decimal, Option, Result, sym, refl, ap, ◌∙◌, subst, inl, inr, ⊎_elim, append_assoc, append-nil, arith, length-append}
+use Rattle.std.proofs.Common.{◌≡◌, ℕ, zero, suc, ◌+◌, ◌^◌, ◌<◌, ◌≤◌, true, eqb, leb, List, [], ◌∷◌, ◌++◌, length, get_or, drop, Some, None, Ok, Err, decimal, Option, Result, sym, refl, ap, ◌∙◌, subst, ⊎_elim, append_assoc, append-nil, arith, length-append}
 use Rattle.std.proofs.lemmas.List.{drop_at}
 use Rattle.std.proofs.lemmas.Bool.{cond-true, cond-false, eq-eqb, eqb-true, le-leb, leb-true, and_from, and_parts, cases_Bool}
-use Rattle.std.specs.List.{flat_map, AllByRecursion as All}
+use Rattle.std.specs.List.{AllByRecursion as All}
 use Rattle.text.specs.declared.LineFault.{LineFault}
 use Rattle.text.specs.declared.NumberFault.{NumberFault}
 use Rattle.text.specs.declared.limits.Limits.{Limits}
@@ -13,7 +13,7 @@ use Rattle.text.specs.Field.{within, judged, field, and_then, on_line}
 use Rattle.sheet.specs.Trips.{FitRows}
 use Rattle.sheet.specs.Writing.{close_for, write_line, write_lines, write_section}
 use Rattle.sheet.specs.Spelled.{spelled_all}
-use Rattle.sheet.proofs.RoundTrip.{number_read, Written, number_written}
+use Rattle.sheet.proofs.RoundTrip.{number_read, number_written}
 
 not_ok : {X F : Type 0} (f : F) (x : X) → ◌≡◌ {A = Result X F} (Err f) (Ok x) → ⊥
 not_ok f x e = let z : ◌≡◌ {A = ℕ} 0 1 = cc in omega arith

@@ -1,13 +1,12 @@
 -- One field more of a line, and one line more of a section.
-use Rattle.std.proofs.Common.{◌≡◌, ℕ, zero, suc, ◌+◌, ◌-◌, ◌*◌, ◌<◌, ◌≤◌, Bool, true, false, cond, List, [], ◌∷◌, ◌++◌, length, get_or, take, drop, set, Ok, Err, Result, sym, refl, ap, ◌∙◌, arith, length-drop, length-set}
+use Rattle.std.proofs.Common.{◌≡◌, ℕ, zero, suc, ◌+◌, ◌-◌, ◌*◌, ◌<◌, ◌≤◌, List, [], ◌∷◌, ◌++◌, length, get_or, take, drop, set, Ok, Err, Result, sym, refl, ap, ◌∙◌, arith, length-drop, length-set}
 use Rattle.std.proofs.lemmas.List.{at_drop_more, at_drop_all, drop-drop, take_more_set, take_rest, drop-set-lt}
-use Rattle.text.specs.declared.LineFault.{LineFault}
 use Rattle.text.specs.declared.NumberFault.{NumberFault}
 use Rattle.bank.specs.declared.refusal.Refusal.TheVariants.{SlotOpen}
 use Rattle.text.specs.declared.limits.Limits.{Limits}
 use Rattle.text.specs.declared.number.Field.{Field}
 use Rattle.text.specs.Faults.{tagged}
-use Rattle.sheet.specs.Fields.{close_before, Line, fields, Rows, lines, count_to, section}
+use Rattle.sheet.specs.Fields.{close_before, Line, fields, lines, count_to, section}
 use Rattle.text.specs.Field.{field, and_then, on_line}
 
 pub close_inside : (ls : List Limits) (k : ℕ) → k < length ls → 32 ≡ close_before (drop k ls)

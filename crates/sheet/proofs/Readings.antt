@@ -1,16 +1,13 @@
 -- The answer to an accepted sheet.
-use Rattle.std.proofs.Common.{◌≡◌, ℕ, zero, suc, ◌<◌, ◌≤◌, Bool, true, false, cond, ◌||◌, ltb, List, [], ◌∷◌, ◌++◌, length, get_or, take, drop, Some, None, Ok, Err, Option, Result, sym, refl, ap, ◌∙◌, subst, arith}
+use Rattle.std.proofs.Common.{◌≡◌, ℕ, zero, suc, ◌<◌, ◌≤◌, List, [], ◌∷◌, ◌++◌, length, get_or, take, drop, Some, None, Ok, Option, sym, refl, ap, ◌∙◌, subst, arith}
 use Rattle.std.proofs.lemmas.List.{length-take-le}
-use Rattle.std.proofs.lemmas.Bool.{cond-false, le-ltb, or_from}
-use Rattle.sheet.specs.declared.reader.SheetHead.{SheetHead}
-use Rattle.sheet.specs.declared.records.Extent.{Extent}
 use Rattle.calendar.specs.declared.Outage.{Outage}
 use Rattle.reserve.specs.declared.Window.{Window}
 use Rattle.cooldown.specs.declared.Schedule.{Schedule}
 use Rattle.bank.specs.declared.ticket.Ticket.{Ticket}
 use Rattle.sheet.specs.declared.tables.Counts.{Counts}
-use Rattle.sheet.specs.Reading.{first_of, onto, head_of, too_short, judged_sheet, reading, Leaves, Answered}
-use Rattle.sheet.specs.Sheet.{Sheet, sheet}
+use Rattle.sheet.specs.Reading.{first_of, judged_sheet, Leaves}
+use Rattle.sheet.specs.Sheet.{sheet}
 use Rattle.sheet.specs.Tables.{TablesRead}
 
 pub first_none : {X : Type 0} (xs : List X) (n : ℕ) → n ≡ 0 → None ≡ first_of (take n xs)

@@ -1,24 +1,21 @@
 -- Sheets that are written are read back, and those that are read are written back.
-use Rattle.std.proofs.Common.{◌≡◌, ℕ, ◌+◌, ◌^◌, ◌<◌, ◌≤◌, Bool, true, false, cond, ltb, List, [], ◌∷◌, ◌++◌, length, get_or, Ok, Err, Result, sym, refl, ap, ◌∙◌, subst, append_assoc, append-nil, arith}
+use Rattle.std.proofs.Common.{◌≡◌, ℕ, ◌+◌, ◌≤◌, Bool, true, false, cond, ltb, List, [], ◌∷◌, ◌++◌, length, get_or, Ok, Err, Result, sym, refl, ap, ◌∙◌, subst, append-nil, arith}
 use Rattle.std.proofs.lemmas.Bool.{both_ways, and_parts, and_from, or_parts, or_from, ltb-false, le-ltb, cond-true, cond-false}
 use Rattle.std.specs.List.{AllByRecursion as All}
 use Rattle.text.specs.declared.limits.Limits.{Limits}
-use Rattle.sheet.specs.Output.{sheet_fits, too_many, writing}
+use Rattle.sheet.specs.Output.{sheet_fits, too_many}
 use Rattle.text.specs.Faults.{Refused}
-use Rattle.sheet.specs.Reading.{too_short, judged_sheet, reading}
+use Rattle.sheet.specs.Reading.{too_short, judged_sheet}
 use Rattle.sheet.specs.Written.{every}
 use Rattle.text.specs.declared.LineFault.{LineFault}
 use Rattle.text.specs.declared.TextFault.{TextFault}
 use Rattle.sheet.specs.declared.records.Extent.{Extent}
-use Rattle.calendar.specs.declared.Outage.{Outage}
-use Rattle.reserve.specs.declared.Window.{Window}
-use Rattle.cooldown.specs.declared.Schedule.{Schedule}
 use Rattle.bank.specs.declared.ticket.Ticket.{Ticket}
 use Rattle.sheet.specs.Fields.{Rows, lines, section, fits, Fitting}
 use Rattle.text.specs.Field.{within, and_then}
 use Rattle.sheet.specs.Records.{extent_limits, make_extent, no_extent, extent_numbers, outage_limits, make_outage, outage_numbers, window_limits, make_window, window_numbers, cool_down_limits, make_cool_down, cool_down_numbers, ticket_limits, make_ticket, ticket_numbers}
 use Rattle.sheet.specs.Sheet.{Sheet, in_section, ended, after_cool_downs, after_windows, after_outages, after_extent, sheet}
-use Rattle.sheet.specs.Trips.{FitRows, Valid, ReadsBack, WritesBack, WrittenThenRead, ReadThenWritten}
+use Rattle.sheet.specs.Trips.{Valid, ReadsBack, WritesBack, WrittenThenRead, ReadThenWritten}
 use Rattle.sheet.specs.Writing.{write_lines, write_section, write_sheet}
 use Rattle.sheet.proofs.LineTrip.{Format, lines_read, lines_written, section_read, section_written}
 use Rattle.sheet.proofs.Sheets.{sheet_ended, one_row}

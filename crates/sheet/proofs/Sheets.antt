@@ -1,9 +1,7 @@
 -- A whole text, section by section.
-use Rattle.std.proofs.Common.{◌≡◌, ℕ, zero, suc, ◌+◌, ◌<◌, ◌≤◌, List, [], ◌∷◌, length, get_or, take, drop, Ok, Err, Result, sym, refl, ap, ◌∙◌, subst, arith}
+use Rattle.std.proofs.Common.{◌≡◌, ℕ, zero, suc, ◌<◌, ◌≤◌, List, [], ◌∷◌, length, get_or, drop, Ok, Err, Result, refl, ap, ◌∙◌, subst, arith}
 use Rattle.std.proofs.lemmas.List.{drop_all}
-use Rattle.text.specs.declared.LineFault.{LineFault}
 use Rattle.bank.specs.declared.refusal.Refusal.TheVariants.{NotInFormat}
-use Rattle.text.specs.declared.TextFault.{TextFault}
 use Rattle.sheet.specs.declared.records.Extent.{Extent}
 use Rattle.calendar.specs.declared.Outage.{Outage}
 use Rattle.reserve.specs.declared.Window.{Window}

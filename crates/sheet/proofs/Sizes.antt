@@ -1,10 +1,9 @@
 -- How long a sheet's text is.
-use Rattle.std.proofs.Common.{◌≡◌, ℕ, suc, ◌+◌, ◌*◌, ◌^◌, ◌<◌, ◌≤◌, true, List, [], ◌∷◌, ◌++◌, length, decimal, sym, refl, ap, ◌∙◌, mul-suc, arith, length-append}
+use Rattle.std.proofs.Common.{ℕ, ◌+◌, ◌*◌, ◌^◌, ◌<◌, ◌≤◌, List, [], ◌∷◌, ◌++◌, length, decimal, arith, length-append}
 use Rattle.std.proofs.lemmas.Fmt.{length-decimal-le}
 use Rattle.std.specs.List.{AllByRecursion as All}
 use Rattle.text.specs.declared.limits.Limits.{Limits}
 use Rattle.sheet.specs.Fields.{Fitting, Short}
-use Rattle.text.specs.Field.{within}
 use Rattle.sheet.specs.Records.{extent_limits, outage_limits, window_limits, cool_down_limits, ticket_limits, extent_numbers, outage_numbers, window_numbers, cool_down_numbers, ticket_numbers}
 use Rattle.sheet.specs.Sheet.{Sheet}
 use Rattle.sheet.specs.Trips.{FitRows, Valid}

@@ -1,10 +1,9 @@
 -- The fields of a line, under their limits.
-use Rattle.std.specs.Prelude.{◌≡◌, ℕ, zero, suc, ◌+◌, ◌^◌, ◌<◌, Bool, true, false, cond, ◌&&◌, List, [], ◌∷◌, ◌++◌, drop, Some, None, Ok, Err, Option, Result, slice_index}
+use Rattle.std.specs.Prelude.{◌≡◌, ℕ, zero, suc, ◌+◌, ◌^◌, ◌<◌, Bool, true, false, ◌&&◌, List, [], ◌∷◌, ◌++◌, drop, Ok, Result, slice_index}
 use Rattle.text.specs.declared.LineFault.{LineFault}
 use Rattle.text.specs.declared.NumberFault.{NumberFault}
-use Rattle.bank.specs.declared.refusal.Refusal.TheVariants.{NotInFormat, CountAboveLimit}
+use Rattle.bank.specs.declared.refusal.Refusal.TheVariants.{CountAboveLimit}
 use Rattle.text.specs.declared.limits.Limits.{Limits}
-use Rattle.text.specs.declared.number.Field.{Field}
 use Rattle.text.specs.Field.{within, field, and_then, on_line}
 
 -- the numbers of a line, and the bytes after it

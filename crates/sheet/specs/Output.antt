@@ -1,5 +1,5 @@
 -- What the writing of a sheet answers, and what it leaves in the caller's buffer.
-use Rattle.std.specs.Prelude.{◌≡◌, ℕ, Bool, cond, ◌&&◌, ◌||◌, List, [], ◌∷◌, ◌++◌, length, drop, Some, Ok, Err, Result, nat_lt}
+use Rattle.std.specs.Prelude.{◌≡◌, ℕ, Bool, cond, ◌&&◌, ◌||◌, List, ◌++◌, length, drop, Some, Ok, Err, Result, nat_lt}
 use Rattle.bank.specs.declared.refusal.Refusal.{Refusal}
 use Rattle.bank.specs.Refusals.{refusal_of}
 use Rattle.sheet.specs.declared.records.Extent.{Extent}

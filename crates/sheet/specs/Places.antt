@@ -4,7 +4,7 @@ use Rattle.text.specs.declared.LineFault.{LineFault}
 use Rattle.text.specs.declared.limits.Limits.{Limits}
 use Rattle.sheet.specs.declared.rows.Place.{Place}
 use Rattle.sheet.specs.declared.section.Section.{Section}
-use Rattle.sheet.specs.Fields.{Rows, lines, section}
+use Rattle.sheet.specs.Fields.{lines, section}
 
 -- `count` lines from a place on are read into the front of a table, and the rest of the table is as it was
 abbrev pub Reached : {R : Type 0} → List Limits → (List ℕ → R) → List ℕ → Place → ℕ → List R → List R → Result Place LineFault → Type 0

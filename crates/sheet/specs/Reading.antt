@@ -5,10 +5,8 @@ use Rattle.text.specs.declared.ReadFault.{ReadFault}
 use Rattle.text.specs.declared.ReadFault.TheVariants.{At}
 use Rattle.text.specs.Faults.{Refused, refused_by, read_refusal}
 use Rattle.sheet.specs.declared.reader.SheetHead.{SheetHead}
-use Rattle.sheet.specs.declared.records.Extent.{Extent}
 use Rattle.calendar.specs.declared.Outage.{Outage}
 use Rattle.reserve.specs.declared.Window.{Window}
-use Rattle.cooldown.specs.declared.Schedule.{Schedule}
 use Rattle.bank.specs.declared.ticket.Ticket.{Ticket}
 use Rattle.sheet.specs.Sheet.{Sheet, sheet}
 

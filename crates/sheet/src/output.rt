@@ -55,9 +55,9 @@ fn put_tables(
     cool_downs: &[Schedule],
     tickets: &[Ticket],
 ) -> usize
-    requires in_bounds { 4900 ≤ length out.old }
-    requires tickets_value { sheet_fits (sheet_of extent outages.now windows.now cool_downs.now tickets.now) ≡ true }
-    requires tickets_value_2 { too_many (sheet_of no_extent outages.now windows.now cool_downs.now tickets.now) ≡ false }
+    requires room { 4900 ≤ length out.old }
+    requires lawful { sheet_fits (sheet_of extent outages.now windows.now cool_downs.now tickets.now) ≡ true }
+    requires few { too_many (sheet_of no_extent outages.now windows.now cool_downs.now tickets.now) ≡ false }
     ensures within { result ≤ 4900 }
     ensures wrote { Wrote out.old out.new 0 (write_sheet (sheet_of extent outages.now windows.now cool_downs.now tickets.now)) result }
 {

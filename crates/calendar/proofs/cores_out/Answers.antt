@@ -1,4 +1,4 @@
-use Rattle.std.proofs.Common.{◌≡◌, List, ap, ◌∙◌, arith, take_all}
+use Rattle.std.proofs.Common.{List, ap, ◌∙◌, arith, take_all}
 use Rattle.calendar.specs.Calendar.{out}
 use Rattle.calendar.specs.declared.Outage.{Outage}
 use Rattle.calendar.proofs.Calendars.{word_more}

@@ -1,4 +1,4 @@
-use Rattle.std.proofs.Common.{◌≡◌, false, List, refl, ap, ◌∙◌, arith, take_all}
+use Rattle.std.proofs.Common.{false, List, refl, ap, ◌∙◌, arith, take_all}
 use Rattle.calendar.specs.Calendar.{outage_edge}
 use Rattle.bank.specs.Interval.{any_by}
 use Rattle.bank.specs.First.{first_above}

@@ -1,6 +1,6 @@
 -- The calendar keeps the bank rules.
-use Rattle.std.specs.Prelude.{◌≡◌, ℕ, ◌+◌, ◌<◌, ◌≤◌, Bool, true, false, cond, ◌&&◌, List, [], ◌∷◌, length, Some, None, ◌==◌, nat_le, nat_lt, refl}
-use Rattle.std.proofs.Common.{sym, ap, ◌∙◌, ⊎_elim, arith}
+use Rattle.std.specs.Prelude.{◌≡◌, ℕ, ◌+◌, ◌<◌, ◌≤◌, false, ◌&&◌, List, [], ◌∷◌, length, Some, ◌==◌, nat_le, nat_lt, refl}
+use Rattle.std.proofs.Common.{ap, ⊎_elim, arith}
 use Rattle.std.specs.List.{slice_get}
 use Rattle.std.proofs.lemmas.Bool.{cases_Bool, cond-false, or_parts, and_left, and_right, le-ltb, lt-ltb, le-leb, lt-leb, cond_both}
 use Rattle.calendar.specs.Calendar.{takes_out, out, usable_at, outage_edge, calendar}

@@ -1,4 +1,4 @@
-use Rattle.std.proofs.Common.{ℕ, ◌-◌, min, arith}
+use Rattle.std.proofs.Common.{min, arith}
 use Rattle.bank.proofs.Tables.{map_over_step, map_over_end}
 use Rattle.cooldown.proofs.each_at_most.Goals as goal
 

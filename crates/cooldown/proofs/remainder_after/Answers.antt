@@ -1,4 +1,4 @@
-use Rattle.std.proofs.Common.{◌≡◌, ℕ, min, ap, ◌∙◌, arith}
+use Rattle.std.proofs.Common.{min, ap, ◌∙◌, arith}
 use Rattle.cooldown.proofs.Cycles.{remainder_here, remainder_next}
 use Rattle.cooldown.proofs.remainder_after.Goals as goal
 use Rattle.cooldown.proofs.remainder_after.Goals.{then-slot-here, else-slot-here}

@@ -1,5 +1,5 @@
 -- The cool-down keeps the bank rules.
-use Rattle.std.specs.Prelude.{◌≡◌, ℕ, suc, ◌+◌, ◌-◌, ◌%◌, ◌<◌, ◌≤◌, min, Bool, true, false, cond, ◌&&◌, ◌||◌, ◌⊎◌, ◌==◌, refl}
+use Rattle.std.specs.Prelude.{◌≡◌, ℕ, suc, ◌+◌, ◌-◌, ◌%◌, ◌<◌, ◌≤◌, min, Bool, true, false, cond, ◌⊎◌, ◌==◌}
 use Rattle.std.proofs.Common.{sym, ap, ◌∙◌, inl, inr, ⊎_elim, mod-eq_of_lt, mod-lt, add-one, arith}
 use Rattle.std.proofs.Math.Nat.{suc-mod, mod_self}
 use Rattle.std.proofs.lemmas.Bool.{cases_lt, lt-ltb, or_parts, eqb-false}

@@ -1,4 +1,4 @@
-use Rattle.std.proofs.Common.{◌≡◌, sym, ap, ◌∙◌, arith, take_all}
+use Rattle.std.proofs.Common.{sym, ap, ◌∙◌, arith, take_all}
 use Rattle.bank.proofs.Tables.{all_by_not, all_by_more}
 use Rattle.reserve.specs.Reserve.{window_fits, table_fits}
 use Rattle.reserve.specs.declared.Window.{Window}

@@ -1,4 +1,4 @@
-use Rattle.std.proofs.Common.{ℕ, ◌-◌, min, arith}
+use Rattle.std.proofs.Common.{◌-◌, arith}
 use Rattle.bank.proofs.Tables.{map_over_step, map_over_end}
 use Rattle.reserve.proofs.each_less.Goals as goal
 

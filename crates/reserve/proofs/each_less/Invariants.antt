@@ -1,4 +1,4 @@
-use Rattle.std.proofs.Common.{◌≡◌, ◌-◌, min, ◌++◌, map, length, take, drop}
+use Rattle.std.proofs.Common.{◌≡◌, ◌-◌, ◌++◌, map, length, take, drop}
 use Rattle.reserve.proofs.each_less.Given as goal
 
 abbrev pub invariant-loop-n : goal.invariant-loop-n

@@ -1,8 +1,7 @@
-use Rattle.std.proofs.Common.{◌≡◌, ◌+◌, ◌-◌, length, take, drop, set, Ok, Err, sym, refl, ap, ◌∙◌, subst, arith}
+use Rattle.std.proofs.Common.{◌≡◌, ◌+◌, ◌-◌, length, take, set, Ok, Err, sym, refl, ap, ◌∙◌, subst, arith}
 use Rattle.std.proofs.lemmas.List.{take_rest, length-take-le}
 use Rattle.sheet.specs.Places.{Reached}
 use Rattle.sheet.proofs.Lines.{InRows, field_at, line_none, line_all, line_fault, line_more, rows_none, rows_all, rows_fault, rows_more}
-use Rattle.sheet.proofs.rows.read_rows.Given as given
 use Rattle.sheet.proofs.rows.read_rows.Goals as goal
 
 pub loop-i-init : goal.loop-i-init

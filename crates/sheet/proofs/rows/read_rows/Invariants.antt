@@ -1,4 +1,3 @@
-use Rattle.std.proofs.Common.{◌≤◌, length}
 use Rattle.sheet.proofs.Lines.{InLine, InRows}
 use Rattle.sheet.proofs.rows.read_rows.Given as goal
 

@@ -1,7 +1,6 @@
-use Rattle.std.proofs.Common.{◌≡◌, drop, Ok, Err, sym, ap, ◌∙◌, arith, rules}
+use Rattle.std.proofs.Common.{Err, ap, ◌∙◌, rules}
 use Rattle.std.proofs.lemmas.Result.{err_from_is_err_and}
 use Rattle.sheet.proofs.Lines.{tagged_ok, tagged_err, count_at, section_fault, section_counted}
-use Rattle.sheet.proofs.section.read_section.Given as given
 use Rattle.sheet.proofs.section.read_section.Goals as goal
 
 pub returns-in_err-field : goal.returns-in_err-field

@@ -1,6 +1,5 @@
-use Rattle.std.proofs.Common.{◌≡◌, [], ◌∷◌, get_or, take, drop, Ok, Err, sym, ap, ◌∙◌, subst, arith}
+use Rattle.std.proofs.Common.{◌≡◌, [], ◌∷◌, get_or, take, drop, Ok, ap, ◌∙◌, arith}
 use Rattle.std.proofs.lemmas.List.{get_or-take}
-use Rattle.sheet.specs.declared.records.Extent.{Extent}
 use Rattle.sheet.specs.Places.{Reached, SectionRead}
 use Rattle.sheet.specs.Records.{extent_limits, make_extent, no_extent, outage_limits, make_outage, window_limits, make_window, cool_down_limits, make_cool_down, ticket_limits, make_ticket}
 use Rattle.sheet.specs.Sheet.{Sheet, ended, sheet}

@@ -1,8 +1,7 @@
-use Rattle.std.proofs.Common.{◌≡◌, ◌≤◌, [], ◌∷◌, ◌++◌, length, decimal, sym, ap, ◌∙◌, subst, arith}
+use Rattle.std.proofs.Common.{[], ◌∷◌, ◌++◌, length, decimal, arith}
 use Rattle.std.proofs.lemmas.Fmt.{length-decimal-le}
-use Rattle.sheet.specs.Writing.{write_line, write_lines}
-use Rattle.sheet.proofs.Writes.{wrote_more, wrote_as}
-use Rattle.sheet.proofs.writer.put_section.Given as given
+use Rattle.sheet.specs.Writing.{write_lines}
+use Rattle.sheet.proofs.Writes.{wrote_more}
 use Rattle.sheet.proofs.writer.put_section.Goals as goal
 
 pub put_number-close-requires : goal.put_number-close-requires

@@ -1,4 +1,4 @@
-use Rattle.std.proofs.Common.{◌≡◌, ℕ, ◌≤◌, min, false, List, length, get_or, take, sym, refl, ap, ◌∙◌, arith, take_all}
+use Rattle.std.proofs.Common.{false, List, refl, ap, ◌∙◌, arith, take_all}
 use Rattle.bank.specs.Interval.{any_by}
 use Rattle.bank.specs.First.{first_above}
 use Rattle.reserve.specs.Reserve.{window_edge}
