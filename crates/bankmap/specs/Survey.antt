@@ -1,7 +1,7 @@
 -- What the map of a site's cores tells of one span of slots.
 use Rattle.std.specs.Prelude.{◌≡◌, ℕ, zero, suc, ◌<◌, ◌≤◌, Bool, false, cond, ◌||◌, List, map, Some, None, Option, ◌==◌, slice_index_or}
 use Rattle.std.specs.List.{range_with_len}
-use Rattle.bank.specs.Meaning.{Meaning, mark_after}
+use Rattle.bank.specs.Meaning.{Meaning}
 use Rattle.bankmap.specs.declared.survey.CoreState.{CoreState}
 use Rattle.bankmap.specs.declared.survey.CoreState.TheVariants.{Usable, Withheld, Out}
 

@@ -1,7 +1,6 @@
 // Faulty texts, each with the number and the place of its fault.
 #![tactic(auto)]
 
-
 // A text, and how it is refused: the number, and the place of the field at fault.
 #[derive(Clone, Copy)]
 pub struct Faulty {

@@ -1,4 +1,4 @@
-use Rattle.std.proofs.Common.{◌≡◌, ℕ, List, ap, ◌∙◌, arith}
+use Rattle.std.proofs.Common.{arith}
 use Rattle.bench_banks.proofs.Lists.{answers_none, answers_more, answers_all}
 use Rattle.bench_banks.proofs.put_each.Goals as goal
 

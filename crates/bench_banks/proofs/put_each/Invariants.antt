@@ -1,4 +1,3 @@
-use Rattle.std.proofs.Common.{◌≡◌, length}
 use Rattle.bench_banks.specs.Bench.{Answers}
 use Rattle.bench_banks.proofs.put_each.Given as goal
 

@@ -1,4 +1,4 @@
-use Rattle.std.proofs.Common.{◌≡◌, ℕ, List, Option, unwrap_or, ap, ◌∙◌, arith}
+use Rattle.std.proofs.Common.{ℕ, Option, unwrap_or, ap, ◌∙◌, arith}
 use Rattle.bench_banks.specs.Bench.{core_or_none}
 use Rattle.bench_banks.proofs.Lists.{answers_none, answers_more, answers_all}
 use Rattle.bench_banks.proofs.put_lanes.Goals as goal

@@ -1,4 +1,3 @@
-use Rattle.std.proofs.Common.{◌≡◌, length}
 use Rattle.bench_banks.specs.Bench.{Answers, core_or_none}
 use Rattle.bench_banks.proofs.put_lanes.Given as goal
 

@@ -1,4 +1,4 @@
-use Rattle.std.proofs.Common.{List, [], ◌∷◌, ap, ◌∙◌}
+use Rattle.std.proofs.Common.{ap, ◌∙◌}
 use Rattle.bank.specs.Meaning.{Meaning}
 use Rattle.reserve.specs.Reserve.{reserve}
 use Rattle.cases.specs.Examples.{three_capacities, two_window_rows}

@@ -1,4 +1,4 @@
-use Rattle.std.proofs.Common.{◌≡◌, ◌+◌, List, sym, refl, ap, ◌∙◌, subst, arith}
+use Rattle.std.proofs.Common.{◌≡◌, ◌+◌, List, sym, refl, ap, ◌∙◌, arith}
 use Rattle.bankmap.specs.declared.survey.CoreState.{CoreState}
 use Rattle.bankmap.proofs.States.{Changed, changed_none, changed_more, changed_all, top_core, core_below}
 use Rattle.bankmap.proofs.survey.with_cores.Goals as goal
