@@ -2,7 +2,7 @@
 use Rattle.std.proofs.Common.{◌≡◌, ℕ, zero, suc, ◌+◌, ◌^◌, ◌<◌, ◌≤◌, true, eqb, leb, List, [], ◌∷◌, ◌++◌, length, get_or, drop, Some, None, Ok, Err, decimal, Option, Result, sym, refl, ap, ◌∙◌, subst, ⊎_elim, append_assoc, append-nil, arith, length-append}
 use Rattle.std.proofs.lemmas.List.{drop_at}
 use Rattle.std.proofs.lemmas.Bool.{cond-true, cond-false, eq-eqb, eqb-true, le-leb, leb-true, and_from, and_parts, cases_Bool}
-use Rattle.std.specs.List.{AllByRecursion as All}
+use Rattle.std.specs.List.{AllByRecursion}
 use Rattle.text.specs.declared.LineFault.{LineFault}
 use Rattle.text.specs.declared.NumberFault.{NumberFault}
 use Rattle.text.specs.declared.limits.Limits.{Limits}
@@ -127,7 +127,7 @@ pub record LinesWritten {R : Type 0} (ls : List Limits) (numbers : R → List �
   pub rows : t.rows ≡ before ++ new
   pub count : length new ≡ k
   pub next : t.next ≡ line + k
-  pub fit : All (λ x. Fitting ls (numbers x)) new
+  pub fit : AllByRecursion (λ x. Fitting ls (numbers x)) new
   pub split : bs ≡ write_lines numbers new ++ t.rest
 
 on_line_ok : {X : Type 0} (line : ℕ) (r : Result X NumberFault) (x : X) → on_line line r ≡ Ok x → r ≡ Ok x
@@ -139,7 +139,7 @@ spelled_one ns h = spelled_all 1 ns h
 
 module _ {R : Type 0} (ls : List Limits) (make : List ℕ → R) (numbers : R → List ℕ) (format : Format ls make numbers) where
   -- lines that were written are read back
-  pub lines_read : (new : List R) (line : ℕ) (rest : List ℕ) (before : List R) → All (λ x. Fitting ls (numbers x)) new → lines ls make (length new) line (write_lines numbers new ++ rest) before ≡ Ok (record { rows = before ++ new; next = line + length new; rest = rest })
+  pub lines_read : (new : List R) (line : ℕ) (rest : List ℕ) (before : List R) → AllByRecursion (λ x. Fitting ls (numbers x)) new → lines ls make (length new) line (write_lines numbers new ++ rest) before ≡ Ok (record { rows = before ++ new; next = line + length new; rest = rest })
   lines_read [] line rest before h = λ i. Ok (record { rows = sym (append-nil before) i; next = stay i; rest = rest })
     where
       stay : line ≡ line + 0
@@ -196,7 +196,7 @@ module _ {R : Type 0} (ls : List Limits) (make : List ℕ → R) (numbers : R �
       let count : get_or w.ns 0 0 ≡ length t.rows = ap (λ l. get_or l 0 0) (sym w.numbers) ∙ sym m.count ∙ ap length (sym m.rows) in
       let line : w.ns ≡ length t.rows ∷ [] = sym one ∙ ap (λ n. n ∷ []) count in
       let fit = (subst (Fitting (count_to most ∷ [])) line w.fit).0 in (
-        (below_high (count_to most) (length t.rows) fit, subst (All (λ x. Fitting ls (numbers x))) (sym m.rows) m.fit),
+        (below_high (count_to most) (length t.rows) fit, subst (AllByRecursion (λ x. Fitting ls (numbers x))) (sym m.rows) m.fit),
         w.split ∙ (λ i. write_line (line i) ++ (m.split ∙ ap (λ l. write_lines numbers l ++ t.rest) (sym m.rows)) i) ∙ sym (append_assoc (write_line (length t.rows ∷ [])) (write_lines numbers t.rows) t.rest),
       )
 

@@ -1,7 +1,7 @@
 -- Sheets that are written are read back, and those that are read are written back.
 use Rattle.std.proofs.Common.{◌≡◌, ℕ, ◌+◌, ◌≤◌, Bool, true, false, cond, ltb, List, [], ◌∷◌, ◌++◌, length, get_or, Ok, Err, Result, sym, refl, ap, ◌∙◌, subst, append-nil, arith}
 use Rattle.std.proofs.lemmas.Bool.{both_ways, and_parts, and_from, or_parts, or_from, ltb-false, le-ltb, cond-true, cond-false}
-use Rattle.std.specs.List.{AllByRecursion as All}
+use Rattle.std.specs.List.{AllByRecursion}
 use Rattle.text.specs.declared.limits.Limits.{Limits}
 use Rattle.sheet.specs.Output.{sheet_fits, too_many}
 use Rattle.text.specs.Faults.{Refused}
@@ -91,7 +91,7 @@ writes_back text s e =
     ∙ ap (λ l. write_section cool_down_numbers c.0.rows ++ l) last))) in (
       ap write_sheet (sym end.1) ∙ sym whole,
       subst Valid end.1 (record {
-        extent = (subst (λ (l : List Extent). All (λ x. Fitting extent_limits (extent_numbers x)) l) (sym hw.rows ∙ only) hw.fit).0;
+        extent = (subst (λ (l : List Extent). AllByRecursion (λ x. Fitting extent_limits (extent_numbers x)) l) (sym hw.rows ∙ only) hw.fit).0;
         outages = ow.0;
         windows = ww.0;
         cool_downs = cw.0;
@@ -105,7 +105,7 @@ fitting_from [] (n ∷ ns) h = absurd (both_ways false refl h)
 fitting_from (l ∷ ls) [] h = absurd (both_ways false refl h)
 fitting_from (l ∷ ls) (n ∷ ns) h = let p = and_parts (within l n) (fits ls ns) h in (p.0, fitting_from ls ns p.1)
 
-all_from : {R : Type 0} (ls : List Limits) (numbers : R → List ℕ) (rows : List R) → every (λ x. fits ls (numbers x)) rows ≡ true → All (λ x. Fitting ls (numbers x)) rows
+all_from : {R : Type 0} (ls : List Limits) (numbers : R → List ℕ) (rows : List R) → every (λ x. fits ls (numbers x)) rows ≡ true → AllByRecursion (λ x. Fitting ls (numbers x)) rows
 all_from ls numbers [] h = tt
 all_from ls numbers (x ∷ rows) h = let p = and_parts (fits ls (numbers x)) (every (λ y. fits ls (numbers y)) rows) h in (fitting_from ls (numbers x) p.0, all_from ls numbers rows p.1)
 
@@ -143,7 +143,7 @@ fits_from [] (n ∷ ns) h = absurd h
 fits_from (l ∷ ls) [] h = absurd h
 fits_from (l ∷ ls) (n ∷ ns) h = and_from (within l n) (fits ls ns) h.0 (fits_from ls ns h.1)
 
-every_from : {R : Type 0} (ls : List Limits) (numbers : R → List ℕ) (rows : List R) → All (λ x. Fitting ls (numbers x)) rows → every (λ x. fits ls (numbers x)) rows ≡ true
+every_from : {R : Type 0} (ls : List Limits) (numbers : R → List ℕ) (rows : List R) → AllByRecursion (λ x. Fitting ls (numbers x)) rows → every (λ x. fits ls (numbers x)) rows ≡ true
 every_from ls numbers [] h = refl
 every_from ls numbers (x ∷ rows) h = and_from (fits ls (numbers x)) (every (λ y. fits ls (numbers y)) rows) (fits_from ls (numbers x) h.0) (every_from ls numbers rows h.1)
 

@@ -1,7 +1,7 @@
 -- How long a sheet's text is.
 use Rattle.std.proofs.Common.{ℕ, ◌+◌, ◌*◌, ◌^◌, ◌<◌, ◌≤◌, List, [], ◌∷◌, ◌++◌, length, decimal, arith, length-append}
 use Rattle.std.proofs.lemmas.Fmt.{length-decimal-le}
-use Rattle.std.specs.List.{AllByRecursion as All}
+use Rattle.std.specs.List.{AllByRecursion}
 use Rattle.text.specs.declared.limits.Limits.{Limits}
 use Rattle.sheet.specs.Fields.{Fitting, Short}
 use Rattle.sheet.specs.Records.{extent_limits, outage_limits, window_limits, cool_down_limits, ticket_limits, extent_numbers, outage_numbers, window_numbers, cool_down_numbers, ticket_numbers}
@@ -22,7 +22,7 @@ line_length (l ∷ ls) (n ∷ ns) short fit =
     omega (arith, length-append (decimal n) (close_for ns ∷ write_line ns))
 
 module _ {R : Type 0} (ls : List Limits) (numbers : R → List ℕ) (short : Short ls) (few : length ls ≤ 5) where
-  lines_length : (rows : List R) → All (λ x. Fitting ls (numbers x)) rows → length (write_lines numbers rows) ≤ 35 * length rows
+  lines_length : (rows : List R) → AllByRecursion (λ x. Fitting ls (numbers x)) rows → length (write_lines numbers rows) ≤ 35 * length rows
   lines_length [] fit = omega arith
   lines_length (x ∷ rows) fit =
       let line = line_length ls (numbers x) short fit.0 in

@@ -1,6 +1,6 @@
 -- The reading and the writing of sheets undo one another.
 use Rattle.std.specs.Prelude.{◌≡◌, ℕ, ◌≤◌, false, List, length, Ok}
-use Rattle.std.specs.List.{AllByRecursion as All}
+use Rattle.std.specs.List.{AllByRecursion}
 use Rattle.bank.specs.declared.ticket.Ticket.{Ticket}
 use Rattle.calendar.specs.declared.Outage.{Outage}
 use Rattle.reserve.specs.declared.Window.{Window}
@@ -14,7 +14,7 @@ use Rattle.sheet.specs.Writing.{write_sheet}
 
 -- at most `most` records, each with its numbers within the limits
 abbrev pub FitRows : {R : Type 0} → ℕ → List Limits → (R → List ℕ) → List R → Type 0
-FitRows most ls numbers rows = (length rows ≤ most) × All (λ x. Fitting ls (numbers x)) rows
+FitRows most ls numbers rows = (length rows ≤ most) × AllByRecursion (λ x. Fitting ls (numbers x)) rows
 
 -- a sheet with every number within its limits and no section too long
 pub record Valid (s : Sheet) : Type 0 where
