@@ -3,12 +3,12 @@
 
 use crate::site::Site;
 use crate::survey::{CoreState, Span, span_from};
-use anyhow::anyhow;
 use bank::Bank;
 use calendar::{Calendar, Outage};
 use cooldown::CoolDown;
 use reserve::{HostReserve, Window};
 use std::alloc::{AllocError, Global};
+use std::process::ExitCode;
 use std::{env, fs};
 use text::ReadFault;
 
@@ -175,10 +175,10 @@ fn run(rt: &HostRuntime) -> anyhow::Result<bool> {
     }
 }
 
-fn main(rt: HostRuntime) -> anyhow::Result<()> {
+fn main(rt: HostRuntime) -> anyhow::Result<ExitCode> {
     if run(&rt)? {
-        Ok(())
+        Ok(ExitCode::SUCCESS)
     } else {
-        Err(anyhow!("the sheet is refused"))
+        Ok(ExitCode::FAILURE)
     }
 }
