@@ -4,3 +4,4 @@ pub mod Filled
 pub mod Tables
 pub mod Layers
 pub mod Rising
+pub mod Called

@@ -1,5 +1,7 @@
--- Intervals of slots, from ≤ t < to, their ends, and tests over lists of them.
-use Rattle.std.specs.Prelude.{ℕ, Bool, true, false, ◌&&◌, ◌||◌, List, [], ◌∷◌, ◌==◌, nat_le, nat_lt}
+-- Intervals of slots, from ≤ t < to, and their ends.
+use Rattle.std.specs.Prelude.{ℕ, Bool, ◌&&◌, ◌||◌, List, ◌==◌, nat_le, nat_lt}
+use Rattle.std.specs.List.{list_any}
+use Rattle.bank.specs.declared.interval.Interval.{Interval}
 
 abbrev pub within : ℕ → ℕ → ℕ → Bool
 within from to t = nat_le from t && nat_lt t to
@@ -8,12 +10,6 @@ within from to t = nat_le from t && nat_lt t to
 abbrev pub edge_of : ℕ → ℕ → ℕ → Bool
 edge_of from to t = t == from || t == to
 
--- some element passes
-abbrev pub any_by : {X : Type 0} → (X → Bool) → List X → Bool
-any_by p [] = false
-any_by p (x ∷ xs) = p x || any_by p xs
-
--- every element passes
-abbrev pub all_by : {X : Type 0} → (X → Bool) → List X → Bool
-all_by p [] = true
-all_by p (x ∷ xs) = p x && all_by p xs
+-- t is an end of some element's interval
+abbrev pub any_edge : {X : Type 0} → (X → Interval) → List X → ℕ → Bool
+any_edge interval xs t = list_any (λ x. edge_of (interval x).from (interval x).to t) xs

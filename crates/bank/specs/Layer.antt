@@ -20,3 +20,7 @@ pub record Cut (m : Meaning) (capacity : ℕ → ℕ → ℕ) (edge : ℕ → Bo
   pub raises : (k t : ℕ) → k < m.top → capacity k t ≤ capacity (k + 1) t
   -- where it adds no mark and the capacity below stays, it stays
   pub stays : (k t : ℕ) → edge (t + 1) ≡ false → m.capacity k (t + 1) ≡ m.capacity k t → capacity k (t + 1) ≡ capacity k t
+
+-- the capacities of m, of each what is left in its slot
+abbrev pub left_by : Meaning → (ℕ → ℕ → ℕ) → ℕ → ℕ → ℕ
+left_by m left k t = left t (m.capacity k t)

@@ -4,5 +4,6 @@ pub mod Meaning
 pub mod Interval
 pub mod Layer
 pub mod Even
+pub mod Reduction
 pub mod Refusals
 pub mod Laws

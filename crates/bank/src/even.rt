@@ -1,13 +1,13 @@
 // The even bank: every core is always usable.
-ghost use Rattle.std.specs.Prelude.{◌≡◌, false};
+ghost use Rattle.std.specs.Prelude.{◌≡◌};
 ghost use Rattle.bank.specs.Even.{even};
-ghost use Rattle.bank.specs.First.{first_above};
 ghost use Rattle.bank.specs.Laws.Evens.{even_rules};
 ghost use Rattle.bank.specs.Limits.{nearest};
 ghost use Rattle.bank.specs.Meaning.{capacities_at};
 
 use crate::Bank;
 use crate::size::Size;
+use std::array;
 
 #[derive(Clone, Copy)]
 pub struct Even {
@@ -17,22 +17,18 @@ pub struct Even {
 impl Even {
     // A number outside its limits is taken as the nearest limit.
     pub fn new(slots: u32, top: u32) -> Even
-        ensures { even result.size.slots result.size.top ≡ even (nearest 1 4096 slots) (nearest 1 64 top) }
+        ensures { ⟦<Even as Bank>⟧.means result ≡ even (nearest 1 4096 slots) (nearest 1 64 top) }
     {
         Even {
             size: Size::new(slots, top),
         }
     }
 
-    // The capacities at the levels 0 to 64 in a slot.
+    // The capacities at the levels 0 to 64 in a slot; apart, as its proof is written by hand.
     fn each_level(&self, slot: u32) -> [u32; 65]
-        ensures { result ≡ capacities_at (even self.now.size.slots self.now.size.top) slot }
+        ensures { result ≡ capacities_at (⟦<Even as Bank>⟧.means self.now) slot }
     {
-        let mut all = [0; 65];
-        for level in 0..65u32 {
-            all[level as usize] = self.capacity(level, slot);
-        }
-        all
+        array::from_fn(|level| self.capacity(level as u32, slot))
     }
 }
 
@@ -58,21 +54,12 @@ impl Bank for Even {
     }
 
     fn core(&self, level: u32, slot: u32, lane: u32) -> Option<u32> {
-        if lane < self.capacity(level, slot) {
-            Some(lane)
-        } else {
-            None
-        }
+        (lane < self.capacity(level, slot)).then_some(lane)
     }
 
-    fn mark_after(&self, slot: u32) -> u32 {
-        end_after(slot, self.size.slots)
+    // No slot is marked.
+    #[tactic(auto, using(crate::proofs::Firsts::first_never))]
+    fn mark_after(&self, _slot: u32) -> u32 {
+        self.slots()
     }
-}
-
-// The end, since no slot is marked.
-fn end_after(slot: u32, end: u32) -> u32
-    ensures { result ≡ first_above (λ _. false) end slot }
-{
-    end
 }

@@ -6,6 +6,8 @@ ghost use Rattle.bank.specs.Meaning.{Meaning, Rules, capacities_at, mark_after, 
 
 pub mod even;
 pub mod interval;
+pub mod layer;
+pub mod reduction;
 pub mod refusal;
 pub mod size;
 pub mod ticket;
@@ -15,9 +17,6 @@ pub mod ticket;
 pub trait Bank {
     // What the bank means.
     ghost means: { Self → Meaning };
-
-    // The proof that the bank keeps the rules.
-    ghost rules: { (b : Self) → Rules (means b) };
 
     // The number of slots, 1 to 4,096.
     fn slots(&self) -> u32
@@ -42,6 +41,9 @@ pub trait Bank {
     // The first mark after a slot, or the number of slots.
     fn mark_after(&self, slot: u32) -> u32
         ensures { result ≡ mark_after (means self.now) slot };
+
+    // Every bank keeps the rules.
+    ghost rules: { (b : Self) → Rules (means b) };
 }
 
 // The end of the span that begins in a slot: the first mark after it, or the number of slots. Up to there every capacity
@@ -53,6 +55,8 @@ pub fn span_end<B: Bank>(cores: &B, slot: u32) -> u32
     steady_to(cores, slot)
 }
 
+// The same, apart: its proof is written by hand, and a mistake in the call above is to fail by its own contract. (So it is
+// wherever a public function only calls a private one with the same contract.)
 fn steady_to<B: Bank>(cores: &B, slot: u32) -> u32
     ensures first { result ≡ mark_after (B.Bank.means cores.now) slot }
     ensures steady { Steady (B.Bank.means cores.now) slot result }

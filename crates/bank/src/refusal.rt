@@ -1,8 +1,8 @@
 // Why a call is refused. There is one list for the whole planner, and each refusal has its number.
-ghost use Rattle.std.specs.Prelude.{◌≡◌};
+ghost use Rattle.std.specs.Prelude.{◌≡◌, if◌then◌else◌, Ok, Err};
 ghost use Rattle.bank.specs.Refusals.{refusal_number};
 
-#[derive(Clone, Copy, Debug)]
+#[derive(Clone, Copy, PartialEq, Eq, Debug)]
 pub enum Refusal {
     // A slot is open.
     SlotOpen = 1,
@@ -48,5 +48,12 @@ impl Refusal {
         ensures { result ≡ refusal_number self }
     {
         self as u32
+    }
+
+    // Refuses where a condition does not hold.
+    pub fn unless(self, holds: bool) -> Result<(), Refusal>
+        ensures { result ≡ (if holds then Ok tt else Err self) }
+    {
+        if holds { Ok(()) } else { Err(self) }
     }
 }

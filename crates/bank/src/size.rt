@@ -21,7 +21,8 @@ pub struct Size {
 }
 
 impl Size {
-    // A number outside its limits is taken as the nearest limit.
+    // A number outside its limits is taken as the nearest limit. (Makings take the two numbers as they are: `Even::new(6, 3)`
+    // is plainer than the same through a record of any two numbers.)
     pub fn new(slots: u32, top: u32) -> Size
         ensures slots { result.slots ≡ nearest 1 4096 slots }
         ensures top { result.top ≡ nearest 1 64 top }
@@ -44,8 +45,6 @@ impl Size {
 pub fn check_size(slots: u32, top: u32) -> Result<(), Refusal>
     ensures { refusal_of result ≡ (if in_limits 1 4096 slots && in_limits 1 64 top then None else Some 16) }
 {
-    if slots < 1 || slots > MAX_SLOTS || top < 1 || top > MAX_LEVEL {
-        return Err(Refusal::OutOfLimits);
-    }
-    Ok(())
+    let fits = (1..=MAX_SLOTS).contains(&slots) && (1..=MAX_LEVEL).contains(&top);
+    Refusal::OutOfLimits.unless(fits)
 }

@@ -1,8 +1,8 @@
 -- The calendar bank: cores that are out of service for some intervals of slots.
 use Rattle.std.specs.Prelude.{ℕ, Bool, cond, ◌&&◌, List, [], length, ◌==◌, nat_lt}
-use Rattle.std.specs.List.{slice_get}
+use Rattle.std.specs.List.{slice_get, list_any}
 use Rattle.calendar.specs.Cores.{usable}
-use Rattle.bank.specs.Interval.{within, edge_of, any_by}
+use Rattle.bank.specs.Interval.{within, edge_of}
 use Rattle.bank.specs.Limits.{in_bank}
 use Rattle.bank.specs.Meaning.{Meaning}
 use Rattle.calendar.specs.declared.Outage.{Outage}
@@ -13,7 +13,7 @@ takes_out t c o = o.core == c && within o.from o.to t
 
 -- core c is out in slot t
 abbrev pub out : List Outage → ℕ → ℕ → Bool
-out rows t c = any_by (takes_out t c) rows
+out rows t c = list_any (takes_out t c) rows
 
 -- the usable cores at a level and slot of the bank, none elsewhere
 abbrev pub usable_at : List Outage → ℕ → ℕ → ℕ → ℕ → List ℕ
@@ -29,5 +29,5 @@ calendar rows slots top = record {
   top = top;
   capacity = λ k t. length (usable_at rows slots top k t);
   core = λ k t i. slice_get (usable_at rows slots top k t) i;
-  marked = λ t. (nat_lt 0 t && nat_lt t slots) && any_by (outage_edge t) rows;
+  marked = λ t. (nat_lt 0 t && nat_lt t slots) && list_any (outage_edge t) rows;
 }

@@ -1,21 +1,22 @@
 // The cool-down: a layer that limits the usable cores at the end of each period.
 #![tactic(auto)]
 
-ghost use Rattle.std.specs.Prelude.{◌≡◌, ◌%◌, ◌<◌, ◌≤◌, min, ◌&&◌, map, if◌then◌else◌, Some, None, nat_eq};
-ghost use Rattle.cooldown.specs.Cooldown.{cool_down, rest_edge, resting};
+ghost use Rattle.std.specs.Prelude.{◌≡◌, ◌%◌, ◌<◌, ◌≤◌, ◌&&◌, if◌then◌else◌, Some, None, ◌==◌};
+ghost use Rattle.cooldown.specs.Cooldown.{cool_down, left_of, rest_edge, resting};
 ghost use Rattle.bank.specs.First.{first_above};
-ghost use Rattle.cooldown.specs.Laws.Cooldowns.{cool_down_rules};
+ghost use Rattle.cooldown.specs.Laws.Cooldowns.{left_below, left_rises, left_stays};
 ghost use Rattle.bank.specs.Limits.{in_limits, nearest};
-ghost use Rattle.bank.specs.Meaning.{mark_after};
 ghost use Rattle.bank.specs.Refusals.{refusal_of};
 
 use bank::Bank;
+use bank::layer::Layer;
+use bank::reduction::Reduction;
 use bank::refusal::Refusal;
 use bank::size::{MAX_LEVEL, MAX_SLOTS};
 
 // The last `rest` of every `period` slots have at most `limit` usable cores.
 #[repr(C)]
-#[derive(Clone, Copy, PartialEq, Eq, Debug)]
+#[derive(Clone, Copy, PartialEq, Eq, Debug, Default)]
 pub struct Schedule {
     pub period: u32,
     pub rest: u32,
@@ -52,7 +53,6 @@ impl Cycle {
 
     // The first begin or end of a rest above a slot and below a limit, else the limit.
     fn edge_after(&self, slot: u32, limit: u32) -> u32
-        requires { limit ≤ 4096 }
         ensures { result ≡ first_above (rest_edge self.now.period self.now.rest) limit slot }
     {
         if self.rest == 0 || self.rest >= self.period || slot >= limit {
@@ -66,11 +66,16 @@ impl Cycle {
 
 // The first number above a slot and below a limit that leaves a remainder by the period, else the limit.
 fn remainder_after(slot: u32, period: u32, remainder: u32, limit: u32) -> u32
-    requires { (slot < limit) × ((limit ≤ 4096) × ((remainder < period) × (period ≤ 4096))) }
-    ensures { result ≡ first_above (λ t. nat_eq (t % period) remainder) limit slot }
+    requires ahead { slot < limit }
+    requires remainder { remainder < period }
+    ensures { result ≡ first_above (λ t. t % period == remainder) limit slot }
 {
-    let here = slot / period * period + remainder;
-    let next = if slot < here { here } else { here + period };
+    let here = (slot / period * period).saturating_add(remainder);
+    let next = if slot < here {
+        here
+    } else {
+        here.saturating_add(period)
+    };
     next.min(limit)
 }
 
@@ -78,26 +83,10 @@ fn remainder_after(slot: u32, period: u32, remainder: u32, limit: u32) -> u32
 pub fn check_cool_down(schedule: Schedule) -> Result<(), Refusal>
     ensures { refusal_of result ≡ (if in_limits 1 4096 schedule.period && (in_limits 0 4096 schedule.rest && in_limits 0 64 schedule.limit) then None else Some 16) }
 {
-    let Schedule {
-        period,
-        rest,
-        limit,
-    } = schedule;
-    if period < 1 || period > MAX_SLOTS || rest > MAX_SLOTS || limit > MAX_LEVEL {
-        return Err(Refusal::OutOfLimits);
-    }
-    Ok(())
-}
-
-// Each capacity cut to a limit.
-fn each_at_most(capacities: [u32; 65], limit: u32) -> [u32; 65]
-    ensures { result ≡ map (λ n. min n limit) capacities }
-{
-    let mut cut = capacities;
-    for n in cut.iter_mut() {
-        *n = (*n).min(limit);
-    }
-    cut
+    let fits = (1..=MAX_SLOTS).contains(&schedule.period)
+        && schedule.rest <= MAX_SLOTS
+        && schedule.limit <= MAX_LEVEL;
+    Refusal::OutOfLimits.unless(fits)
 }
 
 #[derive(Drop)]
@@ -111,7 +100,7 @@ impl<B: Bank> CoolDown<B> {
     // A number outside its limits is taken as the nearest limit.
     pub fn new(below: B, schedule: Schedule) -> CoolDown<B>
         ensures below { result.below ≡ below }
-        ensures meaning { cool_down result.cycle.period result.cycle.rest result.limit (B.Bank.means result.below) ≡ cool_down (nearest 1 4096 schedule.period) (nearest 0 4096 schedule.rest) (nearest 0 64 schedule.limit) (B.Bank.means below) }
+        ensures meaning { ⟦<CoolDown<B> as Bank>⟧.means result ≡ cool_down (nearest 1 4096 schedule.period) (nearest 0 4096 schedule.rest) (nearest 0 64 schedule.limit) (B.means below) }
     {
         CoolDown {
             below,
@@ -119,57 +108,36 @@ impl<B: Bank> CoolDown<B> {
             limit: schedule.limit.min(MAX_LEVEL),
         }
     }
-
-    // The first mark below or begin or end of a rest after a slot, or the number of slots.
-    fn next_mark(&self, slot: u32) -> u32
-        ensures { result ≡ mark_after (cool_down self.now.cycle.period self.now.cycle.rest self.now.limit (B.Bank.means self.now.below)) slot }
-    {
-        self.below
-            .mark_after(slot)
-            .min(self.cycle.edge_after(slot, self.below.slots()))
-    }
 }
 
-impl<B: Bank> Bank for CoolDown<B> {
-    ghost means = { λ b. cool_down b.cycle.period b.cycle.rest b.limit (B.Bank.means b.below) };
+impl<B: Bank> Layer for CoolDown<B> {
+    type Below = B;
 
-    ghost rules = { λ b. cool_down_rules b.cycle.period b.cycle.rest b.limit (B.Bank.means b.below) b.cycle.period_fits.0 (B.Bank.rules b.below) };
+    ghost beneath = { λ b. b.below };
 
-    fn slots(&self) -> u32 {
-        self.below.slots()
+    ghost left = { λ b. left_of b.cycle.period b.cycle.rest b.limit };
+
+    ghost edge = { λ b. rest_edge b.cycle.period b.cycle.rest };
+
+    ghost takes = { λ b. left_below b.cycle.period b.cycle.rest b.limit };
+
+    ghost rises = { λ b. left_rises b.cycle.period b.cycle.rest b.limit };
+
+    ghost stays = { λ b. left_stays b.cycle.period b.cycle.rest b.limit b.cycle.period_fits.0 };
+
+    fn below(&self) -> &B {
+        &self.below
     }
 
-    fn top(&self) -> u32 {
-        self.below.top()
-    }
-
-    fn capacity(&self, level: u32, slot: u32) -> u32 {
-        let below = self.below.capacity(level, slot);
+    fn reduction(&self, slot: u32) -> Reduction {
         if self.cycle.resting(slot) {
-            below.min(self.limit)
+            Reduction::AtMost(self.limit)
         } else {
-            below
+            Reduction::Less(0)
         }
     }
 
-    fn capacities(&self, slot: u32) -> [u32; 65] {
-        let below = self.below.capacities(slot);
-        if self.cycle.resting(slot) {
-            each_at_most(below, self.limit)
-        } else {
-            below
-        }
-    }
-
-    fn core(&self, level: u32, slot: u32, lane: u32) -> Option<u32> {
-        if lane < self.capacity(level, slot) {
-            self.below.core(level, slot, lane)
-        } else {
-            None
-        }
-    }
-
-    fn mark_after(&self, slot: u32) -> u32 {
-        self.next_mark(slot)
+    fn edge_after(&self, slot: u32, limit: u32) -> u32 {
+        self.cycle.edge_after(slot, limit)
     }
 }

@@ -1,7 +1,8 @@
 -- The host reserve: a layer whose windows each withhold some cores for a while.
 use Rattle.std.specs.Prelude.{ℕ, ◌-◌, min, Bool, cond, ◌&&◌, List, sum_by, nat_le, nat_lt, slice_set}
-use Rattle.bank.specs.Interval.{within, edge_of, any_by, all_by}
-use Rattle.bank.specs.Layer.{layer}
+use Rattle.bank.specs.Interval.{within, edge_of}
+use Rattle.std.specs.List.{list_any, list_all}
+use Rattle.bank.specs.Layer.{layer, left_by}
 use Rattle.bank.specs.Meaning.{Meaning}
 use Rattle.reserve.specs.declared.Window.{Window}
 
@@ -10,7 +11,7 @@ abbrev pub window_fits : Window → Bool
 window_fits w = (nat_le w.from 4096 && nat_le w.to 4096) && nat_le w.count 64
 
 abbrev pub table_fits : List Window → Bool
-table_fits ws = all_by window_fits ws
+table_fits ws = list_all window_fits ws
 
 -- each number at its nearest limit
 abbrev pub clamped : Window → Window
@@ -34,5 +35,9 @@ withheld ws t = sum_by (held t) ws
 abbrev pub window_edge : ℕ → Window → Bool
 window_edge t w = edge_of w.from w.to t
 
+-- what is left in slot t of n usable cores
+abbrev pub left_of : List Window → ℕ → ℕ → ℕ
+left_of ws t n = n - withheld ws t
+
 abbrev pub reserve : List Window → Meaning → Meaning
-reserve ws m = layer m (λ k t. m.capacity k t - withheld ws t) (λ t. any_by (window_edge t) ws)
+reserve ws m = layer m (left_by m (left_of ws)) (λ t. list_any (window_edge t) ws)

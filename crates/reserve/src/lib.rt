@@ -1,17 +1,17 @@
 // The host reserve: a layer that withholds cores of the bank below while its windows are in force.
 #![tactic(auto)]
 
-ghost use Rattle.std.specs.Prelude.{◌≡◌, ◌-◌, ◌≤◌, false, map, if◌then◌else◌, Some, None};
-ghost use Rattle.bank.specs.First.{first_above};
-ghost use Rattle.bank.specs.Interval.{any_by};
-ghost use Rattle.bank.specs.Meaning.{mark_after};
-ghost use Rattle.reserve.specs.Laws.Reserves.{reserve_rules};
+ghost use Rattle.std.specs.Prelude.{◌≡◌, false, map, if◌then◌else◌, Some, None};
+ghost use Rattle.std.specs.List.{list_any};
+ghost use Rattle.reserve.specs.Laws.Reserves.{left_below, left_rises, left_stays};
 ghost use Rattle.bank.specs.Refusals.{refusal_of};
-ghost use Rattle.reserve.specs.Reserve.{clamped, held, reserve, settable, table_fits, window_edge, window_fits, with_window, withheld};
+ghost use Rattle.reserve.specs.Reserve.{clamped, held, left_of, reserve, settable, table_fits, window_edge, window_fits, with_window, withheld};
 
 use crate::table::WindowTable;
 use bank::Bank;
-use bank::interval::Interval;
+use bank::interval::{Interval, Timed, first_edge};
+use bank::layer::Layer;
+use bank::reduction::Reduction;
 use bank::refusal::Refusal;
 use bank::size::{MAX_LEVEL, MAX_SLOTS};
 
@@ -19,23 +19,25 @@ mod table;
 
 // A window of the host reserve: while from ≤ t < to, the host keeps `count` cores for itself.
 #[repr(C)]
-#[derive(Clone, Copy, PartialEq, Eq, Debug)]
+#[derive(Clone, Copy, PartialEq, Eq, Debug, Default)]
 pub struct Window {
     pub from: u32,
     pub to: u32,
     pub count: u32,
 }
 
-impl Window {
-    fn interval(&self) -> Interval
-        ensures { result ≡ record { from = self.now.from; to = self.now.to } }
-    {
+impl Timed for Window {
+    ghost interval_of = { λ w. record { from = w.from; to = w.to } };
+
+    fn interval(&self) -> Interval {
         Interval {
             from: self.from,
             to: self.to,
         }
     }
+}
 
+impl Window {
     // Whether each number is in its limits.
     fn fits(&self) -> bool
         ensures { result ≡ window_fits self.now }
@@ -64,46 +66,29 @@ impl Window {
             0
         }
     }
-
-    // The first end of the window above a slot and below a limit, else the limit.
-    fn edge_after(&self, slot: u32, limit: u32) -> u32
-        ensures { result ≡ first_above (λ t. window_edge t self.now) limit slot }
-    {
-        self.interval().edge_after(slot, limit)
-    }
 }
 
 // Refuses windows with a slot above 4,096 or a count above 64.
 pub fn check_windows(windows: &[Window; 8]) -> Result<(), Refusal>
     ensures { refusal_of result ≡ (if table_fits windows.now then None else Some 16) }
 {
-    if !all_fit(windows) {
-        return Err(Refusal::OutOfLimits);
-    }
-    Ok(())
+    Refusal::OutOfLimits.unless(all_fit(windows))
 }
 
 // Whether each number of each window is in its limits.
-fn all_fit(windows: &[Window; 8]) -> bool
+fn all_fit(windows: &[Window]) -> bool
     ensures { result ≡ table_fits windows.now }
 {
-    for w in windows {
-        if !w.fits() {
-            return false;
-        }
-    }
-    true
+    windows.iter().all(|w| w.fits())
 }
 
 impl WindowTable {
     fn new(windows: [Window; 8]) -> WindowTable
         ensures { result.rows ≡ map clamped windows }
     {
-        let mut rows = windows;
-        for w in rows.iter_mut() {
-            *w = w.clamped();
+        WindowTable {
+            rows: windows.map(|w| w.clamped()),
         }
-        WindowTable { rows }
     }
 
     // Changes the window at a place, from 0 to 7.
@@ -119,10 +104,9 @@ impl WindowTable {
         Ok(())
     }
 
-    // The number of cores withheld in a slot.
+    // The number of cores withheld in a slot: the sum over the eight windows.
     fn withheld(&self, slot: u32) -> u32
-        ensures value { result ≡ withheld self.now.rows slot }
-        ensures bound { result ≤ 512 }
+        ensures { result ≡ withheld self.now.rows slot }
     {
         let mut sum = 0;
         for w in &self.rows {
@@ -130,28 +114,6 @@ impl WindowTable {
         }
         sum
     }
-
-    // The first end of a window above a slot and below a limit, else the limit.
-    fn edge_after(&self, slot: u32, limit: u32) -> u32
-        ensures { result ≡ first_above (λ t. any_by (window_edge t) self.now.rows) limit slot }
-    {
-        let mut first = limit;
-        for w in &self.rows {
-            first = first.min(w.edge_after(slot, limit));
-        }
-        first
-    }
-}
-
-// Each capacity less a number, or 0.
-fn each_less(capacities: [u32; 65], by: u32) -> [u32; 65]
-    ensures { result ≡ map (λ n. n - by) capacities }
-{
-    let mut left = capacities;
-    for n in left.iter_mut() {
-        *n = n.saturating_sub(by);
-    }
-    left
 }
 
 #[derive(Drop)]
@@ -165,7 +127,7 @@ impl<B: Bank> HostReserve<B> {
     pub fn new(below: B, windows: [Window; 8]) -> HostReserve<B>
         ensures below { result.below ≡ below }
         ensures windows { result.table.rows ≡ map clamped windows }
-        ensures meaning { reserve result.table.rows (B.Bank.means result.below) ≡ reserve (map clamped windows) (B.Bank.means below) }
+        ensures meaning { ⟦<HostReserve<B> as Bank>⟧.means result ≡ reserve (map clamped windows) (B.means below) }
     {
         HostReserve {
             below,
@@ -183,49 +145,32 @@ impl<B: Bank> HostReserve<B> {
     {
         self.table.set(place, window)
     }
-
-    // The first mark below or end of a window after a slot, or the number of slots.
-    fn next_mark(&self, slot: u32) -> u32
-        ensures { result ≡ mark_after (reserve self.now.table.rows (B.Bank.means self.now.below)) slot }
-    {
-        self.below
-            .mark_after(slot)
-            .min(self.table.edge_after(slot, self.below.slots()))
-    }
 }
 
-impl<B: Bank> Bank for HostReserve<B> {
-    ghost means = { λ b. reserve b.table.rows (B.Bank.means b.below) };
+impl<B: Bank> Layer for HostReserve<B> {
+    type Below = B;
 
-    ghost rules = { λ b. reserve_rules b.table.rows (B.Bank.means b.below) (B.Bank.rules b.below) };
+    ghost beneath = { λ b. b.below };
 
-    fn slots(&self) -> u32 {
-        self.below.slots()
+    ghost left = { λ b. left_of b.table.rows };
+
+    ghost edge = { λ b t. list_any (window_edge t) b.table.rows };
+
+    ghost takes = { λ b. left_below b.table.rows };
+
+    ghost rises = { λ b. left_rises b.table.rows };
+
+    ghost stays = { λ b. left_stays b.table.rows };
+
+    fn below(&self) -> &B {
+        &self.below
     }
 
-    fn top(&self) -> u32 {
-        self.below.top()
+    fn reduction(&self, slot: u32) -> Reduction {
+        Reduction::Less(self.table.withheld(slot))
     }
 
-    fn capacity(&self, level: u32, slot: u32) -> u32 {
-        self.below
-            .capacity(level, slot)
-            .saturating_sub(self.table.withheld(slot))
-    }
-
-    fn capacities(&self, slot: u32) -> [u32; 65] {
-        each_less(self.below.capacities(slot), self.table.withheld(slot))
-    }
-
-    fn core(&self, level: u32, slot: u32, lane: u32) -> Option<u32> {
-        if lane < self.capacity(level, slot) {
-            self.below.core(level, slot, lane)
-        } else {
-            None
-        }
-    }
-
-    fn mark_after(&self, slot: u32) -> u32 {
-        self.next_mark(slot)
+    fn edge_after(&self, slot: u32, limit: u32) -> u32 {
+        first_edge(&self.table.rows, slot, limit)
     }
 }

@@ -1,11 +1,10 @@
 -- The calendar keeps the bank rules.
 use Rattle.std.specs.Prelude.{◌≡◌, ℕ, ◌+◌, ◌<◌, ◌≤◌, false, ◌&&◌, List, [], ◌∷◌, length, Some, ◌==◌, nat_le, nat_lt, refl}
 use Rattle.std.proofs.Common.{ap, ⊎_elim, arith}
-use Rattle.std.specs.List.{slice_get}
+use Rattle.std.specs.List.{slice_get, list_any}
 use Rattle.std.proofs.lemmas.Bool.{cases_Bool, cond-false, or_parts, and_left, and_right, le-ltb, lt-ltb, le-leb, lt-leb, cond_both}
 use Rattle.calendar.specs.Calendar.{takes_out, out, usable_at, outage_edge, calendar}
 use Rattle.calendar.specs.Cores.{usable}
-use Rattle.bank.specs.Interval.{any_by}
 use Rattle.bank.specs.Meaning.{Rules}
 use Rattle.bank.specs.Laws.Tests.{within_stays}
 use Rattle.calendar.specs.Laws.Usable.{nth_has, none_some, usable_same, usable_length, usable_below, usable_distinct, usable_raises}
@@ -16,17 +15,17 @@ use Rattle.calendar.specs.declared.Outage.{Outage}
 takes_stays : (t c : ℕ) (o : Outage) → outage_edge (t + 1) o ≡ false → takes_out (t + 1) c o ≡ takes_out t c o
 takes_stays t c o h = ap (λ b. (o.core == c) && b) (within_stays o.from o.to t h)
 
-out_stays : (t c : ℕ) (rows : List Outage) → any_by (outage_edge (t + 1)) rows ≡ false → out rows (t + 1) c ≡ out rows t c
+out_stays : (t c : ℕ) (rows : List Outage) → list_any (outage_edge (t + 1)) rows ≡ false → out rows (t + 1) c ≡ out rows t c
 out_stays t c [] h = refl
 out_stays t c (o ∷ rows) h =
-    let (a, b) = or_parts (outage_edge (t + 1) o) (any_by (outage_edge (t + 1)) rows) h in
+    let (a, b) = or_parts (outage_edge (t + 1) o) (list_any (outage_edge (t + 1)) rows) h in
     rw (takes_stays t c o a, out_stays t c rows b)
 
-cores_stays : (rows : List Outage) (slots top k t : ℕ) → t + 1 < slots → ((nat_lt 0 (t + 1) && nat_lt (t + 1) slots) && any_by (outage_edge (t + 1)) rows) ≡ false →
+cores_stays : (rows : List Outage) (slots top k t : ℕ) → t + 1 < slots → ((nat_lt 0 (t + 1) && nat_lt (t + 1) slots) && list_any (outage_edge (t + 1)) rows) ≡ false →
     usable_at rows slots top k (t + 1) ≡ usable_at rows slots top k t
 cores_stays rows slots top k t h e =
     let low : t < slots = omega arith in
-    let quiet : any_by (outage_edge (t + 1)) rows ≡ false = rw (lt-ltb 0 (t + 1) (omega arith), lt-ltb (t + 1) slots h) at e in
+    let quiet : list_any (outage_edge (t + 1)) rows ≡ false = rw (lt-ltb 0 (t + 1) (omega arith), lt-ltb (t + 1) slots h) at e in
     rw (lt-ltb (t + 1) slots h, lt-ltb t slots low, usable_same (out rows (t + 1)) (out rows t) k (λ c l. out_stays t c rows quiet))
 
 pub calendar_rules : (rows : List Outage) (slots top : ℕ) → (1 ≤ slots) × (slots ≤ 4096) → (1 ≤ top) × (top ≤ 64) → Rules (calendar rows slots top)

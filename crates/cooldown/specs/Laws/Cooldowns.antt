@@ -3,8 +3,8 @@ use Rattle.std.specs.Prelude.{◌≡◌, ℕ, suc, ◌+◌, ◌-◌, ◌%◌, �
 use Rattle.std.proofs.Common.{sym, ap, ◌∙◌, inl, inr, ⊎_elim, mod-eq_of_lt, mod-lt, add-one, arith}
 use Rattle.std.proofs.Math.Nat.{suc-mod, mod_self}
 use Rattle.std.proofs.lemmas.Bool.{cases_lt, lt-ltb, or_parts, eqb-false}
-use Rattle.cooldown.specs.Cooldown.{resting, rest_edge, cool_down, rested}
-use Rattle.bank.specs.Laws.Layers.{layer_rules}
+use Rattle.cooldown.specs.Cooldown.{resting, rest_edge, cool_down, left_of}
+use Rattle.bank.specs.Laws.Layers.{layered}
 use Rattle.bank.specs.Laws.Tests.{leb_same}
 use Rattle.bank.specs.Meaning.{Meaning, Rules}
 
@@ -49,10 +49,14 @@ cut_raises : (b : Bool) (n m limit : ℕ) → n ≤ m → cond b (min n limit) n
 cut_raises true n m limit h = omega arith
 cut_raises false n m limit h = h
 
+pub left_below : (p q limit t n : ℕ) → left_of p q limit t n ≤ n
+left_below p q limit t n = cut_below (resting p q t) n limit
+
+pub left_rises : (p q limit t n m : ℕ) → n ≤ m → left_of p q limit t n ≤ left_of p q limit t m
+left_rises p q limit t n m h = cut_raises (resting p q t) n m limit h
+
+pub left_stays : (p q limit : ℕ) → 0 < p → (t n : ℕ) → rest_edge p q (t + 1) ≡ false → left_of p q limit (t + 1) n ≡ left_of p q limit t n
+left_stays p q limit h t n e = ap (λ b. cond b (min n limit) n) (resting_stays t p q h e)
+
 pub cool_down_rules : (p q limit : ℕ) (m : Meaning) → 0 < p → Rules m → Rules (cool_down p q limit m)
-cool_down_rules p q limit m h r =
-    layer_rules m r (rested p q limit m) (rest_edge p q) (record {
-      below = λ k t. cut_below (resting p q t) (m.capacity k t) limit;
-      raises = λ k t l. cut_raises (resting p q t) (m.capacity k t) (m.capacity (k + 1) t) limit (r.level_raises k t l);
-      stays = λ k t e s. rw (resting_stays t p q h e, s);
-    })
+cool_down_rules p q limit m h r = layered m (left_of p q limit) (rest_edge p q) r (left_below p q limit) (left_rises p q limit) (left_stays p q limit h)

@@ -22,7 +22,4 @@ loop-w-preserved c =
 pub returns : goal.returns
 returns c =
     let all = take_all c.loop-w.w-index c.args.self.now.rows (omega arith) in
-    record {
-      value = c.loop-w.invariant.0 ∙ ap (λ ws. withheld ws c.args.slot) all;
-      bound = omega arith;
-    }
+    c.loop-w.invariant.0 ∙ ap (λ ws. withheld ws c.args.slot) all

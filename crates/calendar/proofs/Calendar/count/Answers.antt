@@ -1,9 +1,0 @@
-use Rattle.std.proofs.Common.{length, ap, ◌∙◌}
-use Rattle.calendar.proofs.Calendars.{word_cores}
-use Rattle.calendar.proofs.Calendar.count.Goals as goal
-
-pub returns-then-has : goal.returns-then-has
-returns-then-has c =
-    let b = c.args.self.now in
-    c.usable_below.ensures ∙
-    ap length (word_cores b.rows.now b.size.slots b.size.top c.args.slot c.cores_out.result.word b.size.top_fit.1 c.cores_out.ensures c.args.level c.if-has.ensures)
