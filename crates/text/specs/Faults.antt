@@ -2,8 +2,24 @@
 use Rattle.std.specs.Prelude.{ℕ, Some, None, Ok, Err, Option, Result}
 use Rattle.bank.specs.Refusals.{refusal_number}
 use Rattle.text.specs.declared.FaultPlace.{FaultPlace}
+use Rattle.bank.specs.declared.refusal.Refusal.TheVariants.{NotInFormat}
+use Rattle.text.specs.declared.NumberFault.{NumberFault}
 use Rattle.text.specs.declared.ReadFault.{ReadFault}
+use Rattle.text.specs.declared.Section.{Section}
+use Rattle.text.specs.declared.Section.TheVariants.{Head, Outages, Windows, CoolDown, Tickets, Script}
 use Rattle.text.specs.declared.ReadFault.TheVariants.{TextTooLong, ListTooShort, At}
+
+-- a field that begins at this byte of its line is not in the format
+abbrev pub not_in_format : ℕ → NumberFault
+not_in_format byte = record { refusal = NotInFormat; byte = byte }
+
+abbrev pub section_number : Section → ℕ
+section_number Head = 0
+section_number Outages = 1
+section_number Windows = 2
+section_number CoolDown = 3
+section_number Tickets = 4
+section_number Script = 9
 
 abbrev pub fault_number : ReadFault → ℕ
 fault_number TextTooLong = 14

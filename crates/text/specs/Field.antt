@@ -1,10 +1,10 @@
 -- A field under its limits, and its fault in its line.
-use Rattle.std.specs.Prelude.{ℕ, ◌+◌, Bool, cond, ◌&&◌, List, Some, None, Ok, Err, Option, Result, ◌==◌, nat_le}
-use Rattle.bank.specs.declared.refusal.Refusal.TheVariants.{NotInFormat}
+use Rattle.std.specs.Prelude.{ℕ, ◌+◌, Bool, ◌&&◌, List, Some, None, Ok, Err, Option, Result, ◌==◌, if◌then◌else◌, nat_le}
 use Rattle.text.specs.declared.LineFault.{LineFault}
 use Rattle.text.specs.declared.NumberFault.{NumberFault}
 use Rattle.text.specs.declared.limits.Limits.{Limits}
 use Rattle.text.specs.declared.number.Field.{Field}
+use Rattle.text.specs.Faults.{not_in_format}
 use Rattle.text.specs.Number.{numeral}
 
 abbrev pub within : Limits → ℕ → Bool
@@ -13,11 +13,10 @@ within l n = nat_le l.low n && nat_le n l.high
 -- a field that was read: its number has to lie within the limits, and then its close has to be the one due,
 -- or else the next field, at fault, is missing or surplus
 abbrev pub judged : Limits → ℕ → ℕ → Option Field → Result Field NumberFault
-judged l close byte None = Err (record { refusal = NotInFormat; byte = byte })
+judged l close byte None = Err (not_in_format byte)
 judged l close byte (Some f) =
-    cond (within l f.number)
-    (cond (f.close == close) (Ok f) (Err (record { refusal = NotInFormat; byte = byte + f.len })))
-    (Err (record { refusal = l.refusal; byte = byte }))
+    if within l f.number then (if f.close == close then Ok f else Err (not_in_format (byte + f.len)))
+    else Err (record { refusal = l.refusal; byte = byte })
 
 -- the field at the front of the bytes, which begins at `byte` of its line
 abbrev pub field : Limits → ℕ → ℕ → List ℕ → Result Field NumberFault

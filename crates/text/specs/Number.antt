@@ -1,5 +1,5 @@
 -- One number in the text.
-use Rattle.std.specs.Prelude.{ℕ, ◌+◌, ◌-◌, ◌*◌, Bool, cond, ◌&&◌, ◌||◌, List, [], ◌∷◌, Some, None, Option, ◌==◌, nat_le, nat_lt}
+use Rattle.std.specs.Prelude.{ℕ, ◌+◌, ◌-◌, ◌*◌, Bool, ◌&&◌, ◌||◌, List, [], ◌∷◌, Some, None, Option, ◌==◌, if◌then◌else◌, nat_le, nat_lt}
 use Rattle.text.specs.declared.number.Field.{Field}
 
 -- a space or a line's end closes a field
@@ -14,6 +14,6 @@ continues k v b = nat_le 48 b && (nat_le b 57 && (nat_lt k 6 && (k == 0 || nat_l
 abbrev pub numeral : ℕ → ℕ → List ℕ → Option Field
 numeral k v [] = None
 numeral k v (b ∷ bs) =
-    cond (closes b)
-    (cond (k == 0) None (Some (record { number = v; len = k + 1; close = b })))
-    (cond (continues k v b) (numeral (k + 1) (v * 10 + (b - 48)) bs) None)
+    if closes b then (if k == 0 then None else Some (record { number = v; len = k + 1; close = b }))
+    else if continues k v b then numeral (k + 1) (v * 10 + (b - 48)) bs
+    else None

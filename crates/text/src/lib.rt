@@ -2,7 +2,7 @@
 #![tactic(auto)]
 
 ghost use Rattle.std.specs.Prelude.{◌≡◌};
-ghost use Rattle.text.specs.Faults.{fault_number, fault_place, tagged};
+ghost use Rattle.text.specs.Faults.{fault_number, fault_place, not_in_format, section_number, tagged};
 ghost use Rattle.text.specs.declared.ReadFault.TheVariants.{At};
 
 use bank::refusal::Refusal;
@@ -10,46 +10,72 @@ use bank::refusal::Refusal;
 pub mod limits;
 mod line;
 pub mod number;
+pub mod short;
 
 // The most bytes that a text has.
 pub const MAX_TEXT: usize = 16384;
 
 // A field at fault: what is wrong, and its first byte in its line.
-#[derive(Clone, Copy)]
+#[derive(Clone, Copy, PartialEq, Eq, Debug)]
 pub struct NumberFault {
     pub refusal: Refusal,
     pub byte: usize,
 }
 
 // A number's fault with its line, counted from 1.
-#[derive(Clone, Copy)]
+#[derive(Clone, Copy, PartialEq, Eq, Debug)]
 pub struct LineFault {
     pub line: usize,
     pub number: NumberFault,
 }
 
-// A line's fault with its section.
-#[derive(Clone, Copy)]
+// The part of a sheet that a field lies in, or else the script; each has its number.
+#[derive(Clone, Copy, PartialEq, Eq, Debug)]
+pub enum Section {
+    // Line 1 of a sheet: the bank's size.
+    Head = 0,
+    Outages = 1,
+    Windows = 2,
+    CoolDown = 3,
+    Tickets = 4,
+    Script = 9,
+}
+
+// A line's fault with the number of its section.
+#[derive(Clone, Copy, PartialEq, Eq, Debug)]
 pub struct TextFault {
+    // A number and no Section: callers may make a fault with any number, and the enum would ask more of them.
     pub section: u8,
     pub line: LineFault,
 }
 
 // Why a text is not read: it is too long, a list handed in is too short, or a field is at fault.
-#[derive(Clone, Copy)]
+#[derive(Clone, Copy, PartialEq, Eq, Debug)]
 pub enum ReadFault {
     TextTooLong,
     ListTooShort,
     At(TextFault),
 }
 
-// Where a field at fault begins: its section (0 for line 1 of a sheet, 9 for a script), its line from 1, and its first
-// byte in that line from 0.
+// Where a field at fault begins: the number of its section, its line from 1, and its first byte in that line from 0.
 #[derive(Clone, Copy, PartialEq, Eq, Debug)]
 pub struct FaultPlace {
+    // A number, as in TextFault.
     pub section: u8,
     pub line: usize,
     pub byte: usize,
+}
+
+impl NumberFault {
+    // A field that is not in the format, by its first byte in its line.
+    pub fn not_in_format(byte: usize) -> NumberFault
+        ensures { result ≡ not_in_format byte }
+    {
+        NumberFault {
+            refusal: Refusal::NotInFormat,
+            byte,
+        }
+    }
 }
 
 impl ReadFault {
@@ -90,6 +116,16 @@ impl From<(usize, NumberFault)> for LineFault {
 }
 
 // A line's fault turns into the text's fault, given the section.
+impl From<(Section, LineFault)> for TextFault {
+    ghost from_gives = { λ f r. r ≡ record { section = section_number f.0; line = f.1 } };
+
+    fn from(placed: (Section, LineFault)) -> TextFault {
+        let (section, line) = placed;
+        TextFault::from((section as u8, line))
+    }
+}
+
+// The same, given the section's number, which may be any, as in TextFault.
 impl From<(u8, LineFault)> for TextFault {
     ghost from_gives = { λ f r. r ≡ record { section = f.0; line = f.1 } };
 
@@ -112,8 +148,5 @@ impl From<TextFault> for ReadFault {
 pub fn at_place<T, P: Drop, F>(place: P, read: Result<T, F>) -> Result<T, (P, F)>
     ensures { result ≡ tagged place read }
 {
-    match read {
-        Ok(value) => Ok(value),
-        Err(fault) => Err((place, fault)),
-    }
+    read.map_err(|fault| (place, fault))
 }
