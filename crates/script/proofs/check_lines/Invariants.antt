@@ -1,11 +1,9 @@
-use Rattle.std.proofs.Common.{◌+◌, ◌-◌, ◌≤◌, length, drop}
-use Rattle.script.specs.Script.{commands, script}
-use Rattle.script.proofs.Scripts.{Ends}
+use Rattle.std.proofs.Common.{length}
+use Rattle.script.proofs.Scripts.{Reading}
 use Rattle.script.proofs.check_lines.Given as goal
 
-abbrev pub invariant-loop-at : goal.invariant-loop-at
-invariant-loop-at l =
-    (l.at ≤ length l.text) × (l.line ≤ l.at + 1) × Ends (script l.tickets l.text) (commands l.tickets (length (drop l.at l.text)) l.line (drop l.at l.text))
+abbrev pub invariant-loop-rest : goal.invariant-loop-rest
+invariant-loop-rest l = Reading l.tickets l.text.bytes.now l.rest l.number
 
-abbrev pub decreases-loop-at : goal.decreases-loop-at
-decreases-loop-at l = length l.text - l.at
+abbrev pub decreases-loop-rest : goal.decreases-loop-rest
+decreases-loop-rest l = length l.rest
