@@ -1,9 +1,9 @@
-pub mod Lines
 pub mod Sheets
-pub mod Readings
+pub mod Digits
 pub mod RoundTrip
 pub mod LineTrip
 pub mod SheetTrip
-pub mod Writes
-pub mod Fits
 pub mod Sizes
+pub mod Lines
+pub mod Fits
+pub mod Writes

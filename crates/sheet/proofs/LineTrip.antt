@@ -2,6 +2,7 @@
 use Rattle.std.proofs.Common.{◌≡◌, ℕ, zero, suc, ◌+◌, ◌^◌, ◌<◌, ◌≤◌, true, eqb, leb, List, [], ◌∷◌, ◌++◌, length, get_or, drop, Some, None, Ok, Err, decimal, Option, Result, sym, refl, ap, ◌∙◌, subst, ⊎_elim, append_assoc, append-nil, arith, length-append}
 use Rattle.std.proofs.lemmas.List.{drop_at}
 use Rattle.std.proofs.lemmas.Bool.{cond-true, cond-false, eq-eqb, eqb-true, le-leb, leb-true, and_from, and_parts, cases_Bool}
+use Rattle.std.proofs.lemmas.Result.{IfOk-at_ok}
 use Rattle.std.specs.List.{AllByRecursion}
 use Rattle.text.specs.declared.LineFault.{LineFault}
 use Rattle.text.specs.declared.NumberFault.{NumberFault}
@@ -12,11 +13,11 @@ use Rattle.sheet.specs.Fields.{Line, close_before, fields, Rows, lines, count_to
 use Rattle.text.specs.Field.{within, judged, field, and_then, on_line}
 use Rattle.sheet.specs.Trips.{FitRows}
 use Rattle.sheet.specs.Writing.{close_for, write_line, write_lines, write_section}
-use Rattle.sheet.specs.Spelled.{spelled_all}
+use Rattle.sheet.specs.Format.{Format}
 use Rattle.sheet.proofs.RoundTrip.{number_read, number_written}
 
-not_ok : {X F : Type 0} (f : F) (x : X) → ◌≡◌ {A = Result X F} (Err f) (Ok x) → ⊥
-not_ok f x e = let z : ◌≡◌ {A = ℕ} 0 1 = cc in omega arith
+pub not_ok : {X F : Type 0} (f : F) (x : X) → ◌≡◌ {A = Result X F} (Err f) (Ok x) → ⊥
+not_ok f x e = IfOk-at_ok (λ _. ⊥) e tt
 
 pub below_high : (l : Limits) (n : ℕ) → within l n ≡ true → n ≤ l.high
 below_high l n e = leb-true n l.high (and_parts (leb l.low n) (leb n l.high) e).1
@@ -69,7 +70,7 @@ record Accepted (l : Limits) (close : ℕ) (bs : List ℕ) (f : Field) : Type 0 
   pub due : f.close ≡ close
   pub split : bs ≡ decimal f.number ++ close ∷ drop f.len bs
 
-judged_ok : (l : Limits) (close byte : ℕ) (o : Option Field) (f : Field) → judged l close byte o ≡ Ok f → (o ≡ Some f) × (within l f.number ≡ true) × (f.close ≡ close)
+pub judged_ok : (l : Limits) (close byte : ℕ) (o : Option Field) (f : Field) → judged l close byte o ≡ Ok f → (o ≡ Some f) × (within l f.number ≡ true) × (f.close ≡ close)
 judged_ok l close byte None f e = absurd (not_ok _ f e)
 judged_ok l close byte (Some g) f e =
     ⊎_elim
@@ -115,12 +116,6 @@ line_written [] byte bs before t e =
 line_written (l ∷ ls) byte bs before t e =
     field_written l ls byte bs before t (λ f. line_written ls (byte + f.len) (drop f.len bs) (before ++ f.number ∷ []) t) (field l (close_before ls) byte bs) refl e
 
--- records of one kind: the limits of their fields, how they are made of numbers, and their numbers
-pub record Format {R : Type 0} (ls : List Limits) (make : List ℕ → R) (numbers : R → List ℕ) : Type 0 where
-  pub short : Short ls
-  pub unmade : (x : R) → make (numbers x) ≡ x
-  pub remade : (ns : List ℕ) → length ns ≡ length ls → numbers (make ns) ≡ ns
-
 -- what lines that were read say of their bytes
 pub record LinesWritten {R : Type 0} (ls : List Limits) (numbers : R → List ℕ) (k line : ℕ) (bs : List ℕ) (before : List R) (t : Rows R) : Type 0 where
   pub new : List R
@@ -134,8 +129,14 @@ on_line_ok : {X : Type 0} (line : ℕ) (r : Result X NumberFault) (x : X) → on
 on_line_ok line (Ok y) x e = cc
 on_line_ok line (Err f) x e = absurd (not_ok _ x e)
 
+-- a list of one element
+pub one_row : {X : Type 0} (xs : List X) (d : X) → length xs ≡ 1 → xs ≡ get_or xs 0 d ∷ []
+one_row [] d h = absurd (omega arith)
+one_row (x ∷ []) d h = refl
+one_row (x ∷ (y ∷ ys)) d h = absurd (omega arith)
+
 spelled_one : (ns : List ℕ) → length ns ≡ 1 → get_or ns 0 0 ∷ [] ≡ ns
-spelled_one ns h = spelled_all 1 ns h
+spelled_one ns h = sym (one_row ns 0 h)
 
 module _ {R : Type 0} (ls : List Limits) (make : List ℕ → R) (numbers : R → List ℕ) (format : Format ls make numbers) where
   -- lines that were written are read back

@@ -1,7 +1,8 @@
 -- What is written is read back, and what is read is written back.
 use Rattle.std.proofs.Common.{◌≡◌, ℕ, zero, suc, ◌+◌, ◌-◌, ◌*◌, ◌^◌, ◌<◌, ◌≤◌, true, false, ◌&&◌, ◌||◌, eqb, ltb, leb, List, [], ◌∷◌, ◌++◌, length, get_or, drop, Some, None, decimal, sym, refl, ap, ◌∙◌, subst, ⊎_elim, append_assoc, arith, length-append, rules}
-use Rattle.std.proofs.lemmas.Fmt.{decimal_digit, length-decimal-le, decimal_nonempty, first_decimal, digits_decimal, digits_value-decimal, decimal-digits_value}
+use Rattle.std.proofs.lemmas.Fmt.{decimal_digit, decimal_nonempty, first_decimal, digits_decimal, digits_value-decimal, decimal-digits_value}
 use Rattle.std.proofs.lemmas.List.{drop_at}
+use Rattle.std.proofs.lemmas.Option.{none-some}
 use Rattle.std.proofs.lemmas.Str.Parse.{IsNumeralModel, numerals_by_fold, digits_value_short}
 use Rattle.std.proofs.lemmas.Bool.{cond-true, cond-false, ne_eqb, eqb-true, le-leb, leb-true, lt-ltb, ltb-true, and_from, and_parts, or_from, or_right, or_cases, cases_Bool, both_ways}
 use Rattle.std.specs.Char.{is_ascii_digit}
@@ -9,6 +10,7 @@ use Rattle.std.specs.Str.{all_ascii_digits}
 use Rattle.text.specs.declared.number.Field.{Field}
 use Rattle.text.specs.Number.{closes, continues, numeral}
 use Rattle.text.proofs.Numerals.{numeral_closed, numeral_more, digit_from}
+use Rattle.sheet.proofs.Digits.{six_digits}
 
 abbrev pub read_on : ℕ → List ℕ → ℕ
 read_on n [] = n
@@ -52,7 +54,7 @@ number_read zero c rest small close =
     subst (λ ds. numeral 0 0 (ds ++ c ∷ rest) ≡ Some (record { number = 0; len = length ds + 1; close = c })) (sym (decimal_digit 0 (omega arith)))
     (numeral_more 0 0 48 (c ∷ rest) refl refl ∙ numeral_closed 1 0 c rest close (omega arith))
 number_read (suc n) c rest small close =
-    reads_all c (decimal (suc n)) rest close (decimal_nonempty (suc n) (omega arith)) (length-decimal-le 6 (suc n) (omega arith) small (omega arith)) (first_decimal (suc n) (omega arith) (omega arith)) (digits_decimal own (suc n) (omega arith))
+    reads_all c (decimal (suc n)) rest close (decimal_nonempty (suc n) (omega arith)) (six_digits (suc n) small) (first_decimal (suc n) (omega arith) (omega arith)) (digits_decimal own (suc n) (omega arith))
     ∙ ap (λ m. Some (record { number = m; len = length (decimal (suc n)) + 1; close = c })) (digits_value-decimal own (suc n) (omega arith))
 
 -- what a field that was read says of its bytes
@@ -70,7 +72,7 @@ record Spelt (k v : ℕ) (bs : List ℕ) (f : Field) : Type 0 where
   pub some : 0 < k + length ds
 
 not_some : {X : Type 0} (f : X) → None ≡ Some f → ⊥
-not_some f e = let z : ◌≡◌ {A = ℕ} 0 1 = cc in omega arith
+not_some f e = none-some f e
 
 spelt_closed : (k v b : ℕ) (bs : List ℕ) (f : Field) → closes b ≡ true → 0 < k → Some (record { number = v; len = k + 1; close = b }) ≡ Some f → Spelt k v (b ∷ bs) f
 spelt_closed k v b bs f h s e =

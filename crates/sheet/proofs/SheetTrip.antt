@@ -1,41 +1,24 @@
 -- Sheets that are written are read back, and those that are read are written back.
 use Rattle.std.proofs.Common.{◌≡◌, ℕ, ◌+◌, ◌≤◌, Bool, true, false, cond, ltb, List, [], ◌∷◌, ◌++◌, length, get_or, Ok, Err, Result, sym, refl, ap, ◌∙◌, subst, append-nil, arith}
 use Rattle.std.proofs.lemmas.Bool.{both_ways, and_parts, and_from, or_parts, or_from, ltb-false, le-ltb, cond-true, cond-false}
-use Rattle.std.specs.List.{AllByRecursion}
+use Rattle.std.specs.List.{AllByRecursion, list_all}
 use Rattle.text.specs.declared.limits.Limits.{Limits}
 use Rattle.sheet.specs.Output.{sheet_fits, too_many}
-use Rattle.text.specs.Faults.{Refused}
 use Rattle.sheet.specs.Reading.{too_short, judged_sheet}
-use Rattle.sheet.specs.Written.{every}
 use Rattle.text.specs.declared.LineFault.{LineFault}
 use Rattle.text.specs.declared.TextFault.{TextFault}
 use Rattle.sheet.specs.declared.records.Extent.{Extent}
 use Rattle.bank.specs.declared.ticket.Ticket.{Ticket}
 use Rattle.sheet.specs.Fields.{Rows, lines, section, fits, Fitting}
 use Rattle.text.specs.Field.{within, and_then}
+use Rattle.sheet.specs.Format.{extent_format, outage_format, window_format, cool_down_format, ticket_format}
 use Rattle.sheet.specs.Records.{extent_limits, make_extent, no_extent, extent_numbers, outage_limits, make_outage, outage_numbers, window_limits, make_window, window_numbers, cool_down_limits, make_cool_down, cool_down_numbers, ticket_limits, make_ticket, ticket_numbers}
 use Rattle.sheet.specs.Sheet.{Sheet, in_section, ended, after_cool_downs, after_windows, after_outages, after_extent, sheet}
 use Rattle.sheet.specs.Trips.{Valid, ReadsBack, WritesBack, WrittenThenRead, ReadThenWritten}
 use Rattle.sheet.specs.Writing.{write_lines, write_section, write_sheet}
-use Rattle.sheet.proofs.LineTrip.{Format, lines_read, lines_written, section_read, section_written}
-use Rattle.sheet.proofs.Sheets.{sheet_ended, one_row}
+use Rattle.sheet.proofs.LineTrip.{not_ok, one_row, lines_read, lines_written, section_read, section_written}
+use Rattle.sheet.proofs.Sheets.{sheet_ended}
 use Rattle.sheet.proofs.Sizes.{sheet_length}
-use Rattle.sheet.specs.Spelled.{spelled_all}
-
-extent_format : Format extent_limits make_extent extent_numbers
-extent_format = record { short = omega arith; unmade = λ x. refl; remade = spelled_all 2 }
-
-outage_format : Format outage_limits make_outage outage_numbers
-outage_format = record { short = omega arith; unmade = λ x. refl; remade = spelled_all 3 }
-
-window_format : Format window_limits make_window window_numbers
-window_format = record { short = omega arith; unmade = λ x. refl; remade = spelled_all 3 }
-
-cool_down_format : Format cool_down_limits make_cool_down cool_down_numbers
-cool_down_format = record { short = omega arith; unmade = λ x. refl; remade = spelled_all 3 }
-
-ticket_format : Format ticket_limits make_ticket ticket_numbers
-ticket_format = record { short = omega arith; unmade = λ x. refl; remade = spelled_all 5 }
 
 pub reads_back : ReadsBack
 reads_back s v =
@@ -58,11 +41,11 @@ reads_back s v =
 -- where the reading of a whole text went on, each part was read
 went_on : {X Y : Type 0} (n : ℕ) (r : Result X LineFault) (next : X → Result Y TextFault) (y : Y) → and_then (in_section n r) next ≡ Ok y → (x : X) × (r ≡ Ok x) × (next x ≡ Ok y)
 went_on n (Ok x) next y e = (x, refl, e)
-went_on n (Err f) next y e = absurd (let z : ◌≡◌ {A = ℕ} 0 1 = cc in omega arith)
+went_on n (Err f) next y e = absurd (not_ok _ y e)
 
 was_ended : (s s' : Sheet) (next : ℕ) (rest : List ℕ) → ended s next rest ≡ Ok s' → (rest ≡ []) × (s ≡ s')
 was_ended s s' next [] e = (refl, cc)
-was_ended s s' next (b ∷ bs) e = absurd (let z : ◌≡◌ {A = ℕ} 0 1 = cc in omega arith)
+was_ended s s' next (b ∷ bs) e = absurd (not_ok _ s' e)
 
 pub writes_back : WritesBack
 writes_back text s e =
@@ -105,16 +88,16 @@ fitting_from [] (n ∷ ns) h = absurd (both_ways false refl h)
 fitting_from (l ∷ ls) [] h = absurd (both_ways false refl h)
 fitting_from (l ∷ ls) (n ∷ ns) h = let p = and_parts (within l n) (fits ls ns) h in (p.0, fitting_from ls ns p.1)
 
-all_from : {R : Type 0} (ls : List Limits) (numbers : R → List ℕ) (rows : List R) → every (λ x. fits ls (numbers x)) rows ≡ true → AllByRecursion (λ x. Fitting ls (numbers x)) rows
+all_from : {R : Type 0} (ls : List Limits) (numbers : R → List ℕ) (rows : List R) → list_all (λ x. fits ls (numbers x)) rows ≡ true → AllByRecursion (λ x. Fitting ls (numbers x)) rows
 all_from ls numbers [] h = tt
-all_from ls numbers (x ∷ rows) h = let p = and_parts (fits ls (numbers x)) (every (λ y. fits ls (numbers y)) rows) h in (fitting_from ls (numbers x) p.0, all_from ls numbers rows p.1)
+all_from ls numbers (x ∷ rows) h = let p = and_parts (fits ls (numbers x)) (list_all (λ y. fits ls (numbers y)) rows) h in (fitting_from ls (numbers x) p.0, all_from ls numbers rows p.1)
 
 valid_from : (s : Sheet) → sheet_fits s ≡ true → too_many s ≡ false → Valid s
 valid_from s fit few =
     let f0 = and_parts (fits extent_limits (extent_numbers s.extent)) _ fit in
-    let f1 = and_parts (every (λ x. fits outage_limits (outage_numbers x)) s.outages) _ f0.1 in
-    let f2 = and_parts (every (λ x. fits window_limits (window_numbers x)) s.windows) _ f1.1 in
-    let f3 = and_parts (every (λ x. fits cool_down_limits (cool_down_numbers x)) s.cool_downs) (every (λ x. fits ticket_limits (ticket_numbers x)) s.tickets) f2.1 in
+    let f1 = and_parts (list_all (λ x. fits outage_limits (outage_numbers x)) s.outages) _ f0.1 in
+    let f2 = and_parts (list_all (λ x. fits window_limits (window_numbers x)) s.windows) _ f1.1 in
+    let f3 = and_parts (list_all (λ x. fits cool_down_limits (cool_down_numbers x)) s.cool_downs) (list_all (λ x. fits ticket_limits (ticket_numbers x)) s.tickets) f2.1 in
     let n0 = or_parts (ltb 64 (length s.outages)) _ few in
     let n1 = or_parts (ltb 8 (length s.windows)) _ n0.1 in
     let n2 = or_parts (ltb 1 (length s.cool_downs)) (ltb 64 (length s.tickets)) n1.1 in
@@ -126,14 +109,14 @@ valid_from s fit few =
       tickets = (ltb-false 64 (length s.tickets) n2.1, all_from ticket_limits ticket_numbers s.tickets f3.1);
     }
 
--- what is accepted to be written
-was_written : (b : Bool) (r : Result (List ℕ) ℕ) (why : ℕ) (text : List ℕ) → cond b (Err why) r ≡ Ok text → (b ≡ false) × (r ≡ Ok text)
-was_written true r why text e = absurd (let z : ◌≡◌ {A = ℕ} 0 1 = cc in omega arith)
-was_written false r why text e = (refl, e)
+-- what was accepted passed a test that refuses, or one that lets through
+passed : {X F : Type 0} (b : Bool) (r : Result X F) (why : F) (x : X) → cond b (Err why) r ≡ Ok x → (b ≡ false) × (r ≡ Ok x)
+passed true r why x e = absurd (not_ok why x e)
+passed false r why x e = (refl, e)
 
-fitted : (b : Bool) (r : Result (List ℕ) ℕ) (why : ℕ) (text : List ℕ) → cond b r (Err why) ≡ Ok text → (b ≡ true) × (r ≡ Ok text)
-fitted true r why text e = (refl, e)
-fitted false r why text e = absurd (let z : ◌≡◌ {A = ℕ} 0 1 = cc in omega arith)
+let_through : {X F : Type 0} (b : Bool) (r : Result X F) (why : F) (x : X) → cond b r (Err why) ≡ Ok x → (b ≡ true) × (r ≡ Ok x)
+let_through true r why x e = (refl, e)
+let_through false r why x e = absurd (not_ok why x e)
 
 -- valid sheets pass the writer's tests
 
@@ -143,9 +126,9 @@ fits_from [] (n ∷ ns) h = absurd h
 fits_from (l ∷ ls) [] h = absurd h
 fits_from (l ∷ ls) (n ∷ ns) h = and_from (within l n) (fits ls ns) h.0 (fits_from ls ns h.1)
 
-every_from : {R : Type 0} (ls : List Limits) (numbers : R → List ℕ) (rows : List R) → AllByRecursion (λ x. Fitting ls (numbers x)) rows → every (λ x. fits ls (numbers x)) rows ≡ true
+every_from : {R : Type 0} (ls : List Limits) (numbers : R → List ℕ) (rows : List R) → AllByRecursion (λ x. Fitting ls (numbers x)) rows → list_all (λ x. fits ls (numbers x)) rows ≡ true
 every_from ls numbers [] h = refl
-every_from ls numbers (x ∷ rows) h = and_from (fits ls (numbers x)) (every (λ y. fits ls (numbers y)) rows) (fits_from ls (numbers x) h.0) (every_from ls numbers rows h.1)
+every_from ls numbers (x ∷ rows) h = and_from (fits ls (numbers x)) (list_all (λ y. fits ls (numbers y)) rows) (fits_from ls (numbers x) h.0) (every_from ls numbers rows h.1)
 
 valid_fits : (s : Sheet) → Valid s → sheet_fits s ≡ true
 valid_fits s v =
@@ -162,19 +145,15 @@ valid_few s v =
     (or_from _ _ (le-ltb 1 (length s.cool_downs) v.cool_downs.0) (le-ltb 64 (length s.tickets) v.tickets.0)))
 
 -- what is accepted to be read
-was_read : (b : Bool) (r : Result Sheet Refused) (why : Refused) (s : Sheet) → cond b (Err why) r ≡ Ok s → (b ≡ false) × (r ≡ Ok s)
-was_read true r why s e = absurd (let z : ◌≡◌ {A = ℕ} 0 1 = cc in omega arith)
-was_read false r why s e = (refl, e)
-
 was_judged : (r : Result Sheet TextFault) (s : Sheet) → judged_sheet r ≡ Ok s → r ≡ Ok s
 was_judged (Ok x) s e = cc
-was_judged (Err f) s e = absurd (let z : ◌≡◌ {A = ℕ} 0 1 = cc in omega arith)
+was_judged (Err f) s e = absurd (not_ok _ s e)
 
 pub written_then_read : WrittenThenRead
 written_then_read s out text o w t e long =
-    let a = fitted (sheet_fits s) _ _ text e in
-    let b = was_written (too_many s) _ _ text a.1 in
-    let d = was_written (ltb (length out) (length (write_sheet s))) (Ok (write_sheet s)) _ text b.1 in
+    let a = let_through (sheet_fits s) _ _ text e in
+    let b = passed (too_many s) _ _ text a.1 in
+    let d = passed (ltb (length out) (length (write_sheet s))) (Ok (write_sheet s)) _ text b.1 in
     let same : write_sheet s ≡ text = cc d.1 in
     let valid = valid_from s a.0 b.0 in
     let short : length text ≤ 16384 = omega (arith, sheet_length s valid, ap length same) in
@@ -185,8 +164,8 @@ written_then_read s out text o w t e long =
 
 pub read_then_written : ReadThenWritten
 read_then_written s out text o w t e room =
-    let a = was_read (ltb 16384 (length text)) _ _ s e in
-    let b = was_read (too_short o w t) _ _ s a.1 in
+    let a = passed (ltb 16384 (length text)) _ _ s e in
+    let b = passed (too_short o w t) _ _ s a.1 in
     let back = writes_back text s (was_judged (sheet text) s b.1) in
     let fits_out : length (write_sheet s) ≤ length out = omega (arith, ap length back.0) in
     cond-true (sheet_fits s) _ _ (valid_fits s back.1)

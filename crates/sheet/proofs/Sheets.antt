@@ -1,27 +1,21 @@
 -- A whole text, section by section.
-use Rattle.std.proofs.Common.{◌≡◌, ℕ, zero, suc, ◌<◌, ◌≤◌, List, [], ◌∷◌, length, get_or, drop, Ok, Err, Result, refl, ap, ◌∙◌, subst, arith}
-use Rattle.std.proofs.lemmas.List.{drop_all}
-use Rattle.bank.specs.declared.refusal.Refusal.TheVariants.{NotInFormat}
+use Rattle.std.proofs.Common.{◌≡◌, ℕ, List, [], get_or, Ok, Err, Result, sym, ap, ◌∙◌, subst}
 use Rattle.sheet.specs.declared.records.Extent.{Extent}
 use Rattle.calendar.specs.declared.Outage.{Outage}
 use Rattle.reserve.specs.declared.Window.{Window}
 use Rattle.cooldown.specs.declared.Schedule.{Schedule}
 use Rattle.bank.specs.declared.ticket.Ticket.{Ticket}
 use Rattle.text.specs.Faults.{tagged}
+use Rattle.sheet.proofs.LineTrip.{not_ok}
 use Rattle.sheet.specs.Fields.{Rows, lines, section}
 use Rattle.text.specs.Field.{and_then}
 use Rattle.sheet.specs.Records.{extent_limits, make_extent, no_extent, outage_limits, make_outage, window_limits, make_window, cool_down_limits, make_cool_down, ticket_limits, make_ticket}
-use Rattle.sheet.specs.Sheet.{Sheet, in_section, ended, after_cool_downs, after_windows, after_outages, after_extent, sheet}
+use Rattle.sheet.specs.Sheet.{in_section, ended, after_cool_downs, after_windows, after_outages, after_extent, sheet}
 
 -- what is known of a result, where it went on
 pub read_ok : {T P F : Type 0} (Q : Result T F → Type 0) (place : P) (read : Result T F) (x : T) → Ok x ≡ tagged place read → Q read → Q (Ok x)
 read_ok Q place (Ok y) x e q = let same : y ≡ x = cc in subst (λ z. Q (Ok z)) same q
-read_ok Q place (Err f) x e q = absurd (let z : ◌≡◌ {A = ℕ} 0 1 = cc in omega arith)
-
-pub one_row : {X : Type 0} (xs : List X) (d : X) → length xs ≡ 1 → xs ≡ get_or xs 0 d ∷ []
-one_row [] d h = absurd (omega arith)
-one_row (x ∷ []) d h = refl
-one_row (x ∷ (y ∷ ys)) d h = absurd (omega arith)
+read_ok Q place (Err f) x e q = absurd (not_ok _ x (sym e))
 
 -- the text after each section that was read
 module _ (text : List ℕ) (h : Rows Extent) (o : Rows Outage) (w : Rows Window) (c : Rows Schedule) (t : Rows Ticket) where
@@ -32,11 +26,3 @@ module _ (text : List ℕ) (h : Rows Extent) (o : Rows Outage) (w : Rows Window)
       ∙ ap (λ r. and_then {X = Rows Window} (in_section 2 r) (after_windows h o)) e2
       ∙ ap (λ r. and_then {X = Rows Schedule} (in_section 3 r) (after_cool_downs h o w)) e3
       ∙ ap (λ r. and_then {X = Rows Ticket} (in_section 4 r) (λ u. ended (record { extent = get_or h.rows 0 no_extent; outages = o.rows; windows = w.rows; cool_downs = c.rows; tickets = u.rows }) u.next u.rest)) e4
-
-pub ended_all : (s : Sheet) (next : ℕ) (text : List ℕ) (at : ℕ) → length text ≤ at → ended s next (drop at text) ≡ Ok s
-ended_all s next text at h = ap (ended s next) (drop_all at text h)
-
-pub ended_surplus : (s : Sheet) (next : ℕ) (text : List ℕ) (at : ℕ) → at < length text → ended s next (drop at text) ≡ Err (record { section = 4; line = record { line = next; number = record { refusal = NotInFormat; byte = 0 } } })
-ended_surplus s next [] at h = absurd (omega arith)
-ended_surplus s next (b ∷ bs) zero h = refl
-ended_surplus s next (b ∷ bs) (suc at) h = ended_surplus s next bs at (omega arith)

@@ -1,6 +1,5 @@
 -- How long a sheet's text is.
 use Rattle.std.proofs.Common.{ℕ, ◌+◌, ◌*◌, ◌^◌, ◌<◌, ◌≤◌, List, [], ◌∷◌, ◌++◌, length, decimal, arith, length-append}
-use Rattle.std.proofs.lemmas.Fmt.{length-decimal-le}
 use Rattle.std.specs.List.{AllByRecursion}
 use Rattle.text.specs.declared.limits.Limits.{Limits}
 use Rattle.sheet.specs.Fields.{Fitting, Short}
@@ -8,6 +7,7 @@ use Rattle.sheet.specs.Records.{extent_limits, outage_limits, window_limits, coo
 use Rattle.sheet.specs.Sheet.{Sheet}
 use Rattle.sheet.specs.Trips.{FitRows, Valid}
 use Rattle.sheet.specs.Writing.{close_for, write_line, write_lines, write_section, write_sheet}
+use Rattle.sheet.proofs.Digits.{six_digits}
 use Rattle.sheet.proofs.LineTrip.{below_high}
 
 -- a number takes at most six digits, and its close
@@ -17,7 +17,7 @@ line_length [] (n ∷ ns) short fit = absurd fit
 line_length (l ∷ ls) [] short fit = absurd fit
 line_length (l ∷ ls) (n ∷ ns) short fit =
     let small : n < 10 ^ 6 = omega (arith, below_high l n fit.0, short.0) in
-    let digits = length-decimal-le 6 n (omega arith) small (omega arith) in
+    let digits = six_digits n small in
     let rest = line_length ls ns short.1 fit.1 in
     omega (arith, length-append (decimal n) (close_for ns ∷ write_line ns))
 
@@ -31,7 +31,7 @@ module _ {R : Type 0} (ls : List Limits) (numbers : R → List ℕ) (short : Sho
 
   section_length : (most : ℕ) (rows : List R) → most < 100 → FitRows most ls numbers rows → length (write_section numbers rows) ≤ 7 + 35 * most
   section_length most rows small fit =
-      let digits = length-decimal-le 6 (length rows) (omega arith) (omega arith) (omega arith) in
+      let digits = six_digits (length rows) (omega arith) in
       let rest = lines_length rows fit.1 in
       omega (arith, length-append (write_line (length rows ∷ [])) (write_lines numbers rows), length-append (decimal (length rows)) (10 ∷ []))
 

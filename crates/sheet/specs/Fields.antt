@@ -1,5 +1,5 @@
 -- The fields of a line, under their limits.
-use Rattle.std.specs.Prelude.{◌≡◌, ℕ, zero, suc, ◌+◌, ◌^◌, ◌<◌, Bool, true, false, ◌&&◌, List, [], ◌∷◌, ◌++◌, drop, Ok, Result, slice_index}
+use Rattle.std.specs.Prelude.{◌≡◌, ℕ, zero, suc, ◌+◌, ◌^◌, ◌<◌, Bool, true, false, ◌&&◌, List, [], ◌∷◌, ◌++◌, drop, Ok, Result, slice_index, nat_lt, if◌then◌else◌}
 use Rattle.text.specs.declared.LineFault.{LineFault}
 use Rattle.text.specs.declared.NumberFault.{NumberFault}
 use Rattle.bank.specs.declared.refusal.Refusal.TheVariants.{CountAboveLimit}
@@ -15,6 +15,10 @@ pub record Line : Type 0 where
 abbrev pub close_before : List Limits → ℕ
 close_before [] = 10
 close_before (l ∷ ls) = 32
+
+-- what closes field j of n: a space, or the line's end after the last one
+abbrev pub close_at : ℕ → ℕ → ℕ
+close_at n j = if nat_lt (j + 1) n then 32 else 10
 
 -- the fields under these limits, from `byte` of the line on, after the numbers read before
 abbrev pub fields : List Limits → ℕ → List ℕ → List ℕ → Result Line NumberFault

@@ -6,6 +6,7 @@ pub mod Tables
 pub mod Reading
 pub mod Writing
 pub mod Trips
-pub mod Written
 pub mod Output
+pub mod Lists
+pub mod Format
 pub mod Spelled

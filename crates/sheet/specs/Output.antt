@@ -1,5 +1,6 @@
 -- What the writing of a sheet answers, and what it leaves in the caller's buffer.
-use Rattle.std.specs.Prelude.{◌≡◌, ℕ, Bool, cond, ◌&&◌, ◌||◌, List, ◌++◌, length, drop, Some, Ok, Err, Result, nat_lt}
+use Rattle.std.specs.Prelude.{◌≡◌, ℕ, Bool, ◌&&◌, ◌||◌, List, ◌++◌, length, drop, Some, Ok, Err, Result, nat_lt, if◌then◌else◌}
+use Rattle.std.specs.List.{list_all}
 use Rattle.bank.specs.declared.refusal.Refusal.{Refusal}
 use Rattle.bank.specs.Refusals.{refusal_of}
 use Rattle.sheet.specs.declared.records.Extent.{Extent}
@@ -11,7 +12,6 @@ use Rattle.sheet.specs.Fields.{fits}
 use Rattle.sheet.specs.Records.{extent_limits, extent_numbers, outage_limits, outage_numbers, window_limits, window_numbers, cool_down_limits, cool_down_numbers, ticket_limits, ticket_numbers}
 use Rattle.sheet.specs.Sheet.{Sheet}
 use Rattle.sheet.specs.Writing.{write_sheet}
-use Rattle.sheet.specs.Written.{every}
 
 abbrev pub sheet_of : Extent → List Outage → List Window → List Schedule → List Ticket → Sheet
 sheet_of e o w c t = record { extent = e; outages = o; windows = w; cool_downs = c; tickets = t }
@@ -20,10 +20,10 @@ sheet_of e o w c t = record { extent = e; outages = o; windows = w; cool_downs =
 abbrev pub sheet_fits : Sheet → Bool
 sheet_fits s =
     fits extent_limits (extent_numbers s.extent)
-    && (every (λ x. fits outage_limits (outage_numbers x)) s.outages
-    && (every (λ x. fits window_limits (window_numbers x)) s.windows
-    && (every (λ x. fits cool_down_limits (cool_down_numbers x)) s.cool_downs
-    && every (λ x. fits ticket_limits (ticket_numbers x)) s.tickets)))
+    && (list_all (λ x. fits outage_limits (outage_numbers x)) s.outages
+    && (list_all (λ x. fits window_limits (window_numbers x)) s.windows
+    && (list_all (λ x. fits cool_down_limits (cool_down_numbers x)) s.cool_downs
+    && list_all (λ x. fits ticket_limits (ticket_numbers x)) s.tickets)))
 
 -- whether a section has more lines than it may have
 abbrev pub too_many : Sheet → Bool
@@ -32,9 +32,9 @@ too_many s = nat_lt 64 (length s.outages) || (nat_lt 8 (length s.windows) || (na
 -- the text of the sheet, or why it is not written
 abbrev pub writing : Sheet → List ℕ → Result (List ℕ) ℕ
 writing s out =
-    cond (sheet_fits s)
-    (cond (too_many s) (Err 17) (cond (nat_lt (length out) (length (write_sheet s))) (Err 18) (Ok (write_sheet s))))
-    (Err 16)
+    if sheet_fits s
+    then (if too_many s then Err 17 else (if nat_lt (length out) (length (write_sheet s)) then Err 18 else Ok (write_sheet s)))
+    else Err 16
 
 -- what a result of the writing leaves
 abbrev pub Put : List ℕ → List ℕ → Result ℕ Refusal → Result (List ℕ) ℕ → Type 0

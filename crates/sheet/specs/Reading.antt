@@ -1,5 +1,5 @@
 -- What the reading of a sheet answers, and what it leaves in the caller's tables.
-use Rattle.std.specs.Prelude.{◌≡◌, ℕ, Bool, cond, ◌||◌, List, [], ◌∷◌, ◌++◌, length, drop, Some, None, Ok, Err, Option, Result, nat_lt}
+use Rattle.std.specs.Prelude.{◌≡◌, ℕ, Bool, ◌||◌, List, [], ◌∷◌, ◌++◌, length, drop, Some, None, Ok, Err, Option, Result, nat_lt, if◌then◌else◌}
 use Rattle.text.specs.declared.TextFault.{TextFault}
 use Rattle.text.specs.declared.ReadFault.{ReadFault}
 use Rattle.text.specs.declared.ReadFault.TheVariants.{At}
@@ -38,7 +38,9 @@ judged_sheet (Err fault) = Err (refused_by (At fault))
 
 abbrev pub reading : List ℕ → List Outage → List Window → List Ticket → Result Sheet Refused
 reading text o w t =
-    cond (nat_lt 16384 (length text)) (Err (record { number = 14; place = None })) (cond (too_short o w t) (Err (record { number = 8; place = None })) (judged_sheet (sheet text)))
+    if nat_lt 16384 (length text)
+    then Err (record { number = 14; place = None })
+    else (if too_short o w t then Err (record { number = 8; place = None }) else judged_sheet (sheet text))
 
 -- what a result of the reading leaves
 abbrev pub Leaves : List Outage → List Window → List Ticket → List Outage → List Window → List Ticket → Result SheetHead ReadFault → Result Sheet Refused → Type 0

@@ -1,40 +1,37 @@
-// Whether records have their numbers within the limits.
-ghost use Rattle.std.specs.Prelude.{◌≡◌, ◌<◌};
+// Whether records have their numbers within the limits, and sections no more lines than they may have.
+ghost use Rattle.std.specs.Prelude.{◌≡◌, length, nat_lt};
+ghost use Rattle.std.specs.List.{list_all};
 ghost use Rattle.sheet.specs.Fields.{fits};
-ghost use Rattle.text.specs.Field.{within};
-ghost use Rattle.sheet.specs.Written.{every};
 
 use crate::rows::Row;
-use text::limits::Limits;
-
-// Whether `n` stands within `limits`.
-fn number_fits(limits: Limits, n: u32) -> bool
-    ensures { result ≡ within limits n }
-{
-    limits.low <= n && n <= limits.high
-}
 
 // Whether each number of `row` stands within its limits.
-pub(crate) fn row_fits<R: Row>(row: &R) -> bool
-    ensures { result ≡ fits R.Row.table (R.Row.numbers row.now) }
+pub(crate) fn row_fits<const N: usize, R: Row<N>>(row: &R) -> bool
+    ensures { result ≡ fits R.Row.LIMITS (R.Row.numbers row.now) }
 {
-    let limits = R::limits();
-    for j in 0..limits.len() {
-        if !number_fits(limits[j], row.number(j)) {
-            return false;
-        }
-    }
-    true
+    R::LIMITS
+        .iter()
+        .zip(&row.numbers())
+        .all(|(limits, n)| limits.fits(*n))
 }
 
 // Whether each number of each row stands within its limits.
-pub(crate) fn rows_fit<R: Row>(rows: &[R]) -> bool
-    ensures { result ≡ every (λ x. fits R.Row.table (R.Row.numbers x)) rows.now }
+pub(crate) fn rows_fit<const N: usize, R: Row<N>>(rows: &[R]) -> bool
+    ensures { result ≡ list_all (λ x. fits R.Row.LIMITS (R.Row.numbers x)) rows.now }
 {
-    for i in 0..rows.len() {
-        if !row_fits(&rows[i]) {
-            return false;
-        }
-    }
-    true
+    rows.iter().all(row_fits)
+}
+
+// Whether these are more rows than their section may have lines.
+pub(crate) fn exceed_section<const N: usize, R: Row<N>>(rows: &[R]) -> bool
+    ensures { result ≡ nat_lt R.Row.MOST (length rows.now) }
+{
+    rows.len() > R::MOST as usize
+}
+
+// Whether `list` has too little room for a section with all the lines that it may have.
+pub(crate) fn lacks_room<const N: usize, R: Row<N>>(list: &[R]) -> bool
+    ensures { result ≡ nat_lt (length list.now) R.Row.MOST }
+{
+    list.len() < R::MOST as usize
 }

@@ -2,11 +2,11 @@
 #![tactic(auto)]
 
 mod checks;
+mod cursor;
 mod output;
 mod reader;
 mod records;
 mod rows;
-mod section;
 mod tables;
 mod trips;
 mod writer;

@@ -1,6 +1,6 @@
 // The records of a sheet, and the limits of their fields.
 ghost use Rattle.sheet.specs.Records.{extent_limits, make_extent, extent_numbers, outage_limits, make_outage, outage_numbers, window_limits, make_window, window_numbers, cool_down_limits, make_cool_down, cool_down_numbers, ticket_limits, make_ticket, ticket_numbers};
-ghost use Rattle.sheet.specs.Spelled.{spelled_all};
+ghost use Rattle.sheet.specs.Format.{extent_format, extent_sized, outage_format, outage_sized, window_format, window_sized, cool_down_format, cool_down_sized, ticket_format, ticket_sized};
 ghost use Rattle.std.proofs.Common.{rules};
 
 use crate::rows::Row;
@@ -12,345 +12,186 @@ use reserve::Window;
 use text::limits::Limits;
 
 // The number of slots and the top level.
-#[derive(Clone, Copy)]
+#[derive(Clone, Copy, PartialEq, Eq, Debug, Default)]
 pub struct Extent {
     pub slots: u32,
     pub top: u32,
 }
 
-static EXTENT_LIMITS: [Limits; 2] = [
-    Limits {
-        low: 1,
-        high: 4096,
-        refusal: Refusal::OutOfLimits,
-    },
-    Limits {
-        low: 1,
-        high: 64,
-        refusal: Refusal::OutOfLimits,
-    },
-];
+// The limits of fields, each from its least number to its greatest. A macro, since such a const cannot call a function.
+macro_rules! limits {
+    ($($low:literal ..= $high:literal),*) => {
+        [$(Limits { low: $low, high: $high, refusal: Refusal::OutOfLimits }),*]
+    };
+}
 
-static OUTAGE_LIMITS: [Limits; 3] = [
-    Limits {
-        low: 0,
-        high: 63,
-        refusal: Refusal::OutOfLimits,
-    },
-    Limits {
-        low: 0,
-        high: 4095,
-        refusal: Refusal::OutOfLimits,
-    },
-    Limits {
-        low: 1,
-        high: 4096,
-        refusal: Refusal::OutOfLimits,
-    },
-];
+impl Row<2> for Extent {
+    ghost LIMITS = { extent_limits };
 
-static WINDOW_LIMITS: [Limits; 3] = [
-    Limits {
-        low: 0,
-        high: 4095,
-        refusal: Refusal::OutOfLimits,
-    },
-    Limits {
-        low: 1,
-        high: 4096,
-        refusal: Refusal::OutOfLimits,
-    },
-    Limits {
-        low: 1,
-        high: 64,
-        refusal: Refusal::OutOfLimits,
-    },
-];
-
-static COOL_DOWN_LIMITS: [Limits; 3] = [
-    Limits {
-        low: 1,
-        high: 4096,
-        refusal: Refusal::OutOfLimits,
-    },
-    Limits {
-        low: 0,
-        high: 4096,
-        refusal: Refusal::OutOfLimits,
-    },
-    Limits {
-        low: 0,
-        high: 64,
-        refusal: Refusal::OutOfLimits,
-    },
-];
-
-static TICKET_LIMITS: [Limits; 5] = [
-    Limits {
-        low: 1,
-        high: 9999,
-        refusal: Refusal::OutOfLimits,
-    },
-    Limits {
-        low: 0,
-        high: 4095,
-        refusal: Refusal::OutOfLimits,
-    },
-    Limits {
-        low: 1,
-        high: 4096,
-        refusal: Refusal::OutOfLimits,
-    },
-    Limits {
-        low: 1,
-        high: 262144,
-        refusal: Refusal::OutOfLimits,
-    },
-    Limits {
-        low: 1,
-        high: 64,
-        refusal: Refusal::OutOfLimits,
-    },
-];
-
-impl Row for Extent {
-    ghost table = { extent_limits };
-
-    ghost most = { 1 };
+    ghost MOST = { 1 };
 
     ghost make = { make_extent };
 
     ghost numbers = { extent_numbers };
 
-    ghost some = { Prim.search rules };
-
     ghost few = { Prim.search rules };
-
-    ghost short = { Prim.search rules };
 
     ghost fits = { Prim.search rules };
 
-    ghost width = { Prim.search rules };
+    ghost format = { extent_format };
 
-    ghost unmade = { Prim.search rules };
+    ghost sized = { extent_sized };
 
-    ghost remade = { λ ns h. spelled_all 2 ns h };
+    const LIMITS: [Limits; 2] = limits![1..=4096, 1..=64];
 
-    fn limits<'a>() -> &'a [Limits] {
-        &EXTENT_LIMITS
+    const MOST: u32 = 1;
+
+    fn from_numbers(fields: &[u32; 2]) -> Extent {
+        let [slots, top] = *fields;
+        Extent { slots, top }
     }
 
-    fn most() -> u32 {
-        1
-    }
-
-    fn from_numbers(fields: &[u32]) -> Extent {
-        Extent {
-            slots: fields[0],
-            top: fields[1],
-        }
-    }
-
-    fn number(&self, j: usize) -> u32 {
-        match j {
-            0 => self.slots,
-            _ => self.top,
-        }
+    fn numbers(&self) -> [u32; 2] {
+        [self.slots, self.top]
     }
 }
 
-impl Row for Outage {
-    ghost table = { outage_limits };
+impl Row<3> for Outage {
+    ghost LIMITS = { outage_limits };
 
-    ghost most = { 64 };
+    ghost MOST = { 64 };
 
     ghost make = { make_outage };
 
     ghost numbers = { outage_numbers };
 
-    ghost some = { Prim.search rules };
-
     ghost few = { Prim.search rules };
-
-    ghost short = { Prim.search rules };
 
     ghost fits = { Prim.search rules };
 
-    ghost width = { Prim.search rules };
+    ghost format = { outage_format };
 
-    ghost unmade = { Prim.search rules };
+    ghost sized = { outage_sized };
 
-    ghost remade = { λ ns h. spelled_all 3 ns h };
+    const LIMITS: [Limits; 3] = limits![0..=63, 0..=4095, 1..=4096];
 
-    fn limits<'a>() -> &'a [Limits] {
-        &OUTAGE_LIMITS
+    const MOST: u32 = 64;
+
+    fn from_numbers(fields: &[u32; 3]) -> Outage {
+        let [core, from, to] = *fields;
+        Outage { core, from, to }
     }
 
-    fn most() -> u32 {
-        64
-    }
-
-    fn from_numbers(fields: &[u32]) -> Outage {
-        Outage {
-            core: fields[0],
-            from: fields[1],
-            to: fields[2],
-        }
-    }
-
-    fn number(&self, j: usize) -> u32 {
-        match j {
-            0 => self.core,
-            1 => self.from,
-            _ => self.to,
-        }
+    fn numbers(&self) -> [u32; 3] {
+        [self.core, self.from, self.to]
     }
 }
 
-impl Row for Window {
-    ghost table = { window_limits };
+impl Row<3> for Window {
+    ghost LIMITS = { window_limits };
 
-    ghost most = { 8 };
+    ghost MOST = { 8 };
 
     ghost make = { make_window };
 
     ghost numbers = { window_numbers };
 
-    ghost some = { Prim.search rules };
-
     ghost few = { Prim.search rules };
-
-    ghost short = { Prim.search rules };
 
     ghost fits = { Prim.search rules };
 
-    ghost width = { Prim.search rules };
+    ghost format = { window_format };
 
-    ghost unmade = { Prim.search rules };
+    ghost sized = { window_sized };
 
-    ghost remade = { λ ns h. spelled_all 3 ns h };
+    const LIMITS: [Limits; 3] = limits![0..=4095, 1..=4096, 1..=64];
 
-    fn limits<'a>() -> &'a [Limits] {
-        &WINDOW_LIMITS
+    const MOST: u32 = 8;
+
+    fn from_numbers(fields: &[u32; 3]) -> Window {
+        let [from, to, count] = *fields;
+        Window { from, to, count }
     }
 
-    fn most() -> u32 {
-        8
-    }
-
-    fn from_numbers(fields: &[u32]) -> Window {
-        Window {
-            from: fields[0],
-            to: fields[1],
-            count: fields[2],
-        }
-    }
-
-    fn number(&self, j: usize) -> u32 {
-        match j {
-            0 => self.from,
-            1 => self.to,
-            _ => self.count,
-        }
+    fn numbers(&self) -> [u32; 3] {
+        [self.from, self.to, self.count]
     }
 }
 
-impl Row for Schedule {
-    ghost table = { cool_down_limits };
+impl Row<3> for Schedule {
+    ghost LIMITS = { cool_down_limits };
 
-    ghost most = { 1 };
+    ghost MOST = { 1 };
 
     ghost make = { make_cool_down };
 
     ghost numbers = { cool_down_numbers };
 
-    ghost some = { Prim.search rules };
-
     ghost few = { Prim.search rules };
-
-    ghost short = { Prim.search rules };
 
     ghost fits = { Prim.search rules };
 
-    ghost width = { Prim.search rules };
+    ghost format = { cool_down_format };
 
-    ghost unmade = { Prim.search rules };
+    ghost sized = { cool_down_sized };
 
-    ghost remade = { λ ns h. spelled_all 3 ns h };
+    const LIMITS: [Limits; 3] = limits![1..=4096, 0..=4096, 0..=64];
 
-    fn limits<'a>() -> &'a [Limits] {
-        &COOL_DOWN_LIMITS
-    }
+    const MOST: u32 = 1;
 
-    fn most() -> u32 {
-        1
-    }
-
-    fn from_numbers(fields: &[u32]) -> Schedule {
+    fn from_numbers(fields: &[u32; 3]) -> Schedule {
+        let [period, rest, limit] = *fields;
         Schedule {
-            period: fields[0],
-            rest: fields[1],
-            limit: fields[2],
+            period,
+            rest,
+            limit,
         }
     }
 
-    fn number(&self, j: usize) -> u32 {
-        match j {
-            0 => self.period,
-            1 => self.rest,
-            _ => self.limit,
-        }
+    fn numbers(&self) -> [u32; 3] {
+        [self.period, self.rest, self.limit]
     }
 }
 
-impl Row for Ticket {
-    ghost table = { ticket_limits };
+impl Row<5> for Ticket {
+    ghost LIMITS = { ticket_limits };
 
-    ghost most = { 64 };
+    ghost MOST = { 64 };
 
     ghost make = { make_ticket };
 
     ghost numbers = { ticket_numbers };
 
-    ghost some = { Prim.search rules };
-
     ghost few = { Prim.search rules };
-
-    ghost short = { Prim.search rules };
 
     ghost fits = { Prim.search rules };
 
-    ghost width = { Prim.search rules };
+    ghost format = { ticket_format };
 
-    ghost unmade = { Prim.search rules };
+    ghost sized = { ticket_sized };
 
-    ghost remade = { λ ns h. spelled_all 5 ns h };
+    const LIMITS: [Limits; 5] = limits![1..=9999, 0..=4095, 1..=4096, 1..=262144, 1..=64];
 
-    fn limits<'a>() -> &'a [Limits] {
-        &TICKET_LIMITS
-    }
+    const MOST: u32 = 64;
 
-    fn most() -> u32 {
-        64
-    }
-
-    fn from_numbers(fields: &[u32]) -> Ticket {
+    fn from_numbers(fields: &[u32; 5]) -> Ticket {
+        let [number, arrival, deadline, work, bound] = *fields;
         Ticket {
-            number: fields[0],
-            arrival: fields[1],
-            deadline: fields[2],
-            work: fields[3],
-            bound: fields[4],
+            number,
+            arrival,
+            deadline,
+            work,
+            bound,
         }
     }
 
-    fn number(&self, j: usize) -> u32 {
-        match j {
-            0 => self.number,
-            1 => self.arrival,
-            2 => self.deadline,
-            3 => self.work,
-            _ => self.bound,
-        }
+    fn numbers(&self) -> [u32; 5] {
+        [
+            self.number,
+            self.arrival,
+            self.deadline,
+            self.work,
+            self.bound,
+        ]
     }
 }

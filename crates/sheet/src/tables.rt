@@ -1,65 +1,39 @@
 // The tables of a sheet, read section by section.
-ghost use Rattle.std.specs.Prelude.{◌≤◌, length};
 ghost use Rattle.sheet.specs.Tables.{TablesRead};
 
+use crate::cursor::Cursor;
 use crate::records::Extent;
-use crate::rows::{Place, Row, read_rows};
-use crate::section::read_section;
-use bank::refusal::Refusal;
+use arrayvec::ArrayVec;
 use bank::ticket::Ticket;
 use calendar::Outage;
 use cooldown::Schedule;
 use reserve::Window;
-use text::{LineFault, NumberFault, TextFault, at_place};
+use text::short::ShortText;
+use text::{Section, TextFault, at_place};
 
-// The size of the bank, and how many lines each section has.
-#[derive(Clone, Copy)]
-pub struct Counts {
-    pub extent: Extent,
-    pub outages: usize,
-    pub windows: usize,
-    pub cool_downs: usize,
-    pub tickets: usize,
+// What a sheet says, with room for as many records as each section may have; its first line is the one extent.
+#[derive(Drop, Default)]
+pub(crate) struct Tables {
+    pub extents: ArrayVec<Extent, 1>,
+    pub outages: ArrayVec<Outage, 64>,
+    pub windows: ArrayVec<Window, 8>,
+    pub cool_downs: ArrayVec<Schedule, 1>,
+    pub tickets: ArrayVec<Ticket, 64>,
 }
 
-// Reads a whole text, each section into the front of its table.
-pub(crate) fn read_tables(
-    text: &[u8],
-    outages: &mut [Outage],
-    windows: &mut [Window],
-    cool_downs: &mut [Schedule],
-    tickets: &mut [Ticket],
-) -> Result<Counts, TextFault>
-    requires { (length text.now ≤ 16384) × ((64 ≤ length outages.old) × ((8 ≤ length windows.old) × ((1 ≤ length cool_downs.old) × (64 ≤ length tickets.old)))) }
-    ensures { TablesRead text.now outages.new windows.new cool_downs.new tickets.new result }
-{
-    let mut extents = [Extent { slots: 0, top: 0 }];
-    let first = at_place(
-        0u8,
-        read_rows(text, Place { at: 0, line: 1 }, 1, &mut extents),
-    )?;
-    let outage = at_place(1u8, read_section(text, first, outages))?;
-    let window = at_place(2u8, read_section(text, outage.next, windows))?;
-    let cool_down = at_place(3u8, read_section(text, window.next, cool_downs))?;
-    let ticket = at_place(4u8, read_section(text, cool_down.next, tickets))?;
-    if ticket.next.at < text.len() {
-        let surplus = NumberFault {
-            refusal: Refusal::NotInFormat,
-            byte: 0,
-        };
-        return Err(TextFault {
-            section: 4,
-            line: LineFault {
-                line: ticket.next.line,
-                number: surplus,
-            },
-        });
+impl Tables {
+    // Reads a whole text into the tables, in place of what they were.
+    pub(crate) fn read(&mut self, text: ShortText) -> Result<(), TextFault>
+        ensures { TablesRead text.entry.bytes.now self.new result }
+    {
+        let mut cursor = Cursor::new(text);
+        self.extents.clear();
+        at_place(Section::Head, cursor.read_rows(1, &mut self.extents))?;
+        at_place(Section::Outages, cursor.read_section(&mut self.outages))?;
+        at_place(Section::Windows, cursor.read_section(&mut self.windows))?;
+        at_place(Section::CoolDown, cursor.read_section(&mut self.cool_downs))?;
+        at_place(Section::Tickets, cursor.read_section(&mut self.tickets))?;
+        at_place(Section::Tickets, cursor.read_end())?;
+        Ok(())
     }
-    Ok(Counts {
-        extent: extents[0],
-        outages: outage.count,
-        windows: window.count,
-        cool_downs: cool_down.count,
-        tickets: ticket.count,
-    })
 }
