@@ -1,8 +1,9 @@
 -- The states of the cores, lane by lane.
-use Rattle.std.proofs.Common.{◌≡◌, ℕ, suc, ◌+◌, ◌<◌, ◌≤◌, Bool, true, false, cond, ◌||◌, List, length, get_or, set, replicate, Some, None, Option, sym, refl, ap, ◌∙◌, ⊎_elim, add-one, arith}
+use Rattle.std.proofs.Common.{◌≡◌, ℕ, suc, ◌+◌, ◌<◌, ◌≤◌, Bool, true, false, cond, ◌||◌, List, length, get_or, set, replicate, Some, None, Option, unwrap_or, sym, refl, ap, ◌∙◌, ⊎_elim, add-one, arith}
 use Rattle.std.proofs.lemmas.List.FromFn.{fill_by_all, get_or-map-range_with_len}
 use Rattle.std.proofs.lemmas.List.{length-set, get_or-set_same, get_or-set_other, get_or-replicate}
 use Rattle.std.proofs.lemmas.Bool.{cases_eq, or_right, cond-true, eq-eqb, ne_eqb}
+use Rattle.std.specs.Option.{MatchOption}
 use Rattle.bank.specs.Meaning.{Meaning, Rules}
 use Rattle.bank.proofs.Filled.{counted_same}
 use Rattle.bank.proofs.Rising.{capacity_rises}
@@ -61,6 +62,14 @@ fewest_is m rules t top all r is_top is_all low high fewer =
       as_many = omega (arith, capacity_rises m rules t r m.top (omega arith) (omega arith));
       no_lower = λ k h. let few = fewer k h in omega arith;
     }
+
+-- the same of the first level that is found, or else of the top level
+pub fewest_found : (m : Meaning) → Rules m → (t top all r : ℕ) (found : Option ℕ) → top ≡ m.top → all ≡ m.capacity top t → r ≡ unwrap_or found top →
+    MatchOption found ((k : ℕ) → 0 ≤ k → k < top → m.capacity k t < all)
+    (λ i. (0 ≤ i) × (i < top) × (all ≤ m.capacity i t) × ((k : ℕ) → 0 ≤ k → k < i → m.capacity k t < all)) → FewestLevel m t r
+fewest_found m rules t top all r None is_top is_all is fewer = fewest_is m rules t top all r is_top is_all (omega arith) (rw is (omega arith)) (λ k h. fewer k (omega arith) (omega arith))
+fewest_found m rules t top all r (Some i) is_top is_all is (least, below, many, fewer) =
+    fewest_is m rules t top all r is_top is_all (omega arith) (rw is many) (λ k h. fewer k (omega arith) (omega arith))
 
 -- a lane's core at the level that is the top
 pub top_core : (m : Meaning) (t top i : ℕ) (o : Option ℕ) → top ≡ m.top → o ≡ m.core top t i → m.core m.top t i ≡ o

@@ -1,29 +1,37 @@
 -- A list whose front a loop fills.
-use Rattle.std.proofs.Common.{◌≡◌, ℕ, suc, ◌+◌, ◌<◌, min, cond, ltb, List, length, get_or, set, sym, refl, ap, ◌∙◌, ⊎_elim, arith}
-use Rattle.std.proofs.lemmas.List.{length-set, get_or-set_same, get_or-set_other}
-use Rattle.std.proofs.lemmas.Bool.{cases_eq, cond-true, cond-false, lt-ltb, le-ltb}
-use Rattle.bank.specs.Laws.Tests.{leb_same}
+use Rattle.std.proofs.Common.{◌≡◌, ℕ, ◌+◌, ◌-◌, ◌<◌, ◌≤◌, min, cond, ltb, List, ◌++◌, length, drop, get_or, set, subst, sym, ap, ◌∙◌, ⊎_elim, arith, length-append, length-drop}
+use Rattle.std.proofs.lemmas.List.{get_or_append_left, get_or-append_right, get_or-drop, get_or-set_same, get_or-set_other}
+use Rattle.std.proofs.lemmas.Bool.{cases_eq, cases_lt, cond-true, cond-false, lt-ltb, le-ltb}
 use Rattle.bench_banks.specs.Bench.{Answers}
 
-pub answers_none : (f : ℕ → ℕ) (xs : List ℕ) → Answers f 0 xs xs
-answers_none f xs = record { long = refl; holds = λ k h. sym (cond-false (ltb k 0) (f k) (get_or xs k 0) (le-ltb k 0 (omega arith))) }
+module _ (P : ℕ → ℕ → Type 0) where
+  -- the first n places hold answers to their numbers
+  abbrev pub Filled : ℕ → List ℕ → Type 0
+  Filled n xs = (k : ℕ) → k < n → P k (get_or xs k 0)
 
-pub answers_more : (f : ℕ → ℕ) (n v : ℕ) (before now : List ℕ) → n < length before → v ≡ f n → Answers f n before now → Answers f (n + 1) before (set now n v)
-answers_more f n v before now inside is so_far = record {
-  long = length-set now n v ∙ so_far.long;
-  holds = λ k h. ⊎_elim (here k) (apart k h) (cases_eq k n);
+  pub filled_more : (n v : ℕ) (xs : List ℕ) → n < length xs → P n v → Filled n xs → Filled (n + 1) (set xs n v)
+  filled_more n v xs inside is so_far k h = ⊎_elim here apart (cases_eq k n)
+    where
+      here : k ≡ n → P k (get_or (set xs n v) k 0)
+      here e = rw e (subst (P n) (sym (get_or-set_same xs n v 0 inside)) is)
+
+      apart : (k ≡ n → ⊥) → P k (get_or (set xs n v) k 0)
+      apart ne = subst (P k) (sym (get_or-set_other xs n k v 0 ne)) (so_far k (grind arith))
+
+-- the front is filled as far as the list goes, and an answer to a number is the value of f there
+pub answers_all : (P : ℕ → ℕ → Type 0) (f : ℕ → ℕ) (count n : ℕ) (before front : List ℕ) → n ≡ min (length before) count → length front ≡ n → Filled P n front →
+    ((k r : ℕ) → k < count → P k r → r ≡ f k) → Answers f count before (front ++ drop n before)
+answers_all P f count n before front is long filled value = record {
+  long = length-append front (drop n before) ∙ omega (arith, length-drop n before);
+  holds = λ k h. ⊎_elim (asked k h) (rest k h) (cases_lt k count);
 }
   where
-    here : (k : ℕ) → k ≡ n → get_or (set now n v) k 0 ≡ cond (ltb k (n + 1)) (f k) (get_or before k 0)
-    here k e = rw e (get_or-set_same now n v 0 (omega (arith, so_far.long)) ∙ is ∙ sym (cond-true (ltb n (n + 1)) (f n) (get_or before n 0) (lt-ltb n (n + 1) (omega arith))))
+    asked : (k : ℕ) → k < length before → k < count → get_or (front ++ drop n before) k 0 ≡ cond (ltb k count) (f k) (get_or before k 0)
+    asked k h few =
+        get_or_append_left front (drop n before) 0 k (omega arith) ∙ value k _ few (filled k (omega arith)) ∙
+        sym (cond-true (ltb k count) (f k) (get_or before k 0) (lt-ltb k count few))
 
-    apart : (k : ℕ) → k < length before → (k ≡ n → ⊥) → get_or (set now n v) k 0 ≡ cond (ltb k (n + 1)) (f k) (get_or before k 0)
-    apart k h ne =
-        get_or-set_other now n k v 0 ne ∙ so_far.holds k h ∙
-        ap (λ b. cond b (f k) (get_or before k 0)) (leb_same (suc k) n (suc k) (n + 1) (λ a. omega arith) (λ a. grind arith))
-
-pub answers_all : (f : ℕ → ℕ) (n most : ℕ) (before now : List ℕ) → n ≡ min (length before) most → Answers f n before now → Answers f most before now
-answers_all f n most before now e filled = record {
-  long = filled.long;
-  holds = λ k h. filled.holds k h ∙ ap (λ b. cond b (f k) (get_or before k 0)) (leb_same (suc k) n (suc k) most (λ a. omega arith) (λ a. omega arith));
-}
+    rest : (k : ℕ) → k < length before → count ≤ k → get_or (front ++ drop n before) k 0 ≡ cond (ltb k count) (f k) (get_or before k 0)
+    rest k h many =
+        get_or-append_right front (drop n before) n k 0 long (omega arith) ∙ get_or-drop n before (k - n) 0 ∙
+        ap (λ i. get_or before i 0) (omega arith) ∙ sym (cond-false (ltb k count) (f k) (get_or before k 0) (le-ltb k count many))

@@ -8,6 +8,7 @@ use Rattle.cooldown.specs.Cooldown.{cool_down}
 use Rattle.reserve.specs.Reserve.{reserve}
 use Rattle.reserve.specs.declared.Window.{Window}
 
+-- also in the specs of the worked examples: neither crate stands on the other
 abbrev window_row : ℕ → ℕ → ℕ → Window
 window_row from to count = record { from = from; to = to; count = count }
 
@@ -25,6 +26,6 @@ pub record Answers (f : ℕ → ℕ) (n : ℕ) (before after : List ℕ) : Type 
   pub long : length after ≡ length before
   pub holds : (k : ℕ) → k < length before → slice_index after k ≡ cond (nat_lt k n) (f k) (slice_index before k)
 
--- a lane's core, and 64 where it has none
+-- a lane's core at the top level, and 64 where it has none
 abbrev pub core_or_none : Meaning → ℕ → ℕ → ℕ
 core_or_none m t lane = unwrap_or (m.core 64 t lane) 64

@@ -1,5 +1,5 @@
 -- Worked examples of each kind of bank.
-use Rattle.std.specs.Prelude.{◌≡◌, ℕ, ◌<◌, ◌||◌, List, [], ◌∷◌, Some, None, ◌==◌}
+use Rattle.std.specs.Prelude.{◌≡◌, ℕ, ◌<◌, ◌||◌, List, [], ◌∷◌, map, Some, None, ◌==◌}
 use Rattle.calendar.specs.Calendar.{calendar}
 use Rattle.cooldown.specs.Cooldown.{cool_down}
 use Rattle.bank.specs.Even.{even}
@@ -11,6 +11,7 @@ use Rattle.reserve.specs.declared.Window.{Window}
 abbrev pub outage_row : ℕ → ℕ → ℕ → Outage
 outage_row core from to = record { core = core; from = from; to = to }
 
+-- also in the specs of the benchmark's banks: neither crate stands on the other
 abbrev pub window_row : ℕ → ℕ → ℕ → Window
 window_row from to count = record { from = from; to = to; count = count }
 
@@ -34,9 +35,9 @@ two_windows = reserve two_window_rows (even 6 4)
 abbrev pub every_fourth_slot : Meaning
 every_fourth_slot = cool_down 4 1 1 (even 6 2)
 
--- at one level, in three slots
-abbrev pub three_capacities : Meaning → ℕ → ℕ → ℕ → ℕ → List ℕ
-three_capacities m k first second third = m.capacity k first ∷ m.capacity k second ∷ m.capacity k third ∷ []
+-- at one level, in each of the slots
+abbrev pub capacities_in : Meaning → ℕ → List ℕ → List ℕ
+capacities_in m level slots = map (m.capacity level) slots
 
 pub record BankExamples : Type 0 where
   -- an even bank of three cores, of any length: level 2 has two cores in every slot

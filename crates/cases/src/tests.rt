@@ -8,31 +8,38 @@ use cooldown::{CoolDown, Schedule, check_cool_down};
 use reserve::{HostReserve, Window, check_windows};
 use std::process::Abort;
 
-const UNUSED: Window = Window {
-    from: 0,
-    to: 0,
-    count: 0,
-};
+fn outage(core: u32, from: u32, to: u32) -> Outage {
+    Outage { core, from, to }
+}
 
-// The number with which an answer refuses, or 0.
-fn refused(answer: Result<(), Refusal>) -> u32 {
-    match answer {
-        Ok(()) => 0,
-        Err(why) => why.number(),
+fn window(from: u32, to: u32, count: u32) -> Window {
+    Window { from, to, count }
+}
+
+fn schedule(period: u32, rest: u32, limit: u32) -> Schedule {
+    Schedule {
+        period,
+        rest,
+        limit,
     }
+}
+
+// The number with which an answer refuses.
+fn refused(answer: Result<(), Refusal>) -> Option<u32> {
+    answer.err().map(|why| why.number())
 }
 
 #[test]
 fn each_size_is_checked_at_its_limits(rt: HostRuntime) {
     let sizes = [
-        (1, 1, 0),
-        (4096, 64, 0),
-        (0, 1, 16),
-        (4097, 1, 16),
-        (1, 0, 16),
-        (1, 65, 16),
-        (u32::MAX, 64, 16),
-        (4096, u32::MAX, 16),
+        (1, 1, None),
+        (4096, 64, None),
+        (0, 1, Some(16)),
+        (4097, 1, Some(16)),
+        (1, 0, Some(16)),
+        (1, 65, Some(16)),
+        (u32::MAX, 64, Some(16)),
+        (4096, u32::MAX, Some(16)),
     ];
     for (slots, top, number) in sizes {
         assert_eq!(rt; refused(check_size(slots, top)), number);
@@ -57,7 +64,7 @@ fn a_size_outside_its_limits_is_taken_as_the_nearest(rt: HostRuntime) {
 
 // A table with one window in use.
 fn table_with(place: usize, window: Window) -> [Window; 8] {
-    let mut windows = [UNUSED; 8];
+    let mut windows = [Window::default(); 8];
     if place < 8 {
         windows[place] = window;
     }
@@ -67,51 +74,11 @@ fn table_with(place: usize, window: Window) -> [Window; 8] {
 #[test]
 fn each_window_is_checked_at_its_limits(rt: HostRuntime) {
     let windows = [
-        (
-            0,
-            Window {
-                from: 4096,
-                to: 4096,
-                count: 64,
-            },
-            0,
-        ),
-        (
-            0,
-            Window {
-                from: 4097,
-                to: 0,
-                count: 0,
-            },
-            16,
-        ),
-        (
-            3,
-            Window {
-                from: 0,
-                to: 4097,
-                count: 0,
-            },
-            16,
-        ),
-        (
-            5,
-            Window {
-                from: 0,
-                to: 0,
-                count: 65,
-            },
-            16,
-        ),
-        (
-            7,
-            Window {
-                from: u32::MAX,
-                to: u32::MAX,
-                count: u32::MAX,
-            },
-            16,
-        ),
+        (0, window(4096, 4096, 64), None),
+        (0, window(4097, 0, 0), Some(16)),
+        (3, window(0, 4097, 0), Some(16)),
+        (5, window(0, 0, 65), Some(16)),
+        (7, window(u32::MAX, u32::MAX, u32::MAX), Some(16)),
     ];
     for (place, window, number) in windows {
         assert_eq!(rt; refused(check_windows(&table_with(place, window))), number);
@@ -120,12 +87,8 @@ fn each_window_is_checked_at_its_limits(rt: HostRuntime) {
 
 #[test]
 fn a_window_outside_its_limits_is_taken_as_the_nearest(rt: HostRuntime) {
-    let window = Window {
-        from: 2,
-        to: u32::MAX,
-        count: u32::MAX,
-    };
-    let pile = HostReserve::new(Even::new(4096, 64), table_with(7, window));
+    let table = table_with(7, window(2, u32::MAX, u32::MAX));
+    let pile = HostReserve::new(Even::new(4096, 64), table);
     assert_eq!(rt; pile.capacity(64, 1), 64);
     assert_eq!(rt; pile.capacity(64, 2), 0);
     assert_eq!(rt; pile.capacity(64, 4095), 0);
@@ -134,34 +97,14 @@ fn a_window_outside_its_limits_is_taken_as_the_nearest(rt: HostRuntime) {
 
 #[test]
 fn a_window_is_changed_by_its_place(rt: HostRuntime) {
-    let mut pile = HostReserve::new(Even::new(8, 4), [UNUSED; 8]);
+    let mut pile = HostReserve::new(Even::new(8, 4), [Window::default(); 8]);
     assert_eq!(rt; (pile.capacity(4, 3), pile.mark_after(0)), (4, 8));
-    assert_eq!(rt;
-        refused(pile.set_window(
-            7,
-            Window {
-                from: 2,
-                to: 5,
-                count: 3,
-            },
-        )),
-        0
-    );
+    assert_eq!(rt; pile.set_window(7, window(2, 5, 3)), Ok(()));
     assert_eq!(rt;
         (pile.capacity(4, 3), pile.mark_after(0), pile.mark_after(2)),
         (1, 2, 5)
     );
-    assert_eq!(rt;
-        refused(pile.set_window(
-            0,
-            Window {
-                from: 3,
-                to: 4,
-                count: 2,
-            },
-        )),
-        0
-    );
+    assert_eq!(rt; pile.set_window(0, window(3, 4, 2)), Ok(()));
     assert_eq!(rt;
         (
             pile.capacity(4, 2),
@@ -170,63 +113,19 @@ fn a_window_is_changed_by_its_place(rt: HostRuntime) {
         ),
         (1, 0, 1)
     );
-    assert_eq!(rt; refused(pile.set_window(7, UNUSED)), 0);
+    assert_eq!(rt; pile.set_window(7, Window::default()), Ok(()));
     assert_eq!(rt; (pile.capacity(4, 2), pile.capacity(4, 3)), (4, 2));
 }
 
 #[test]
 fn a_bad_place_or_number_leaves_the_windows(rt: HostRuntime) {
-    let mut pile = HostReserve::new(
-        Even::new(8, 4),
-        table_with(
-            0,
-            Window {
-                from: 2,
-                to: 5,
-                count: 3,
-            },
-        ),
-    );
-    let good = Window {
-        from: 0,
-        to: 8,
-        count: 4,
-    };
-    assert_eq!(rt; refused(pile.set_window(8, good)), 16);
-    assert_eq!(rt; refused(pile.set_window(u32::MAX, good)), 16);
-    assert_eq!(rt;
-        refused(pile.set_window(
-            0,
-            Window {
-                from: 4097,
-                to: 8,
-                count: 4,
-            },
-        )),
-        16
-    );
-    assert_eq!(rt;
-        refused(pile.set_window(
-            0,
-            Window {
-                from: 0,
-                to: 4097,
-                count: 4,
-            },
-        )),
-        16
-    );
-    assert_eq!(rt;
-        refused(pile.set_window(
-            0,
-            Window {
-                from: 0,
-                to: 8,
-                count: 65,
-            },
-        )),
-        16
-    );
+    let mut pile = HostReserve::new(Even::new(8, 4), table_with(0, window(2, 5, 3)));
+    let good = window(0, 8, 4);
+    assert_eq!(rt; refused(pile.set_window(8, good)), Some(16));
+    assert_eq!(rt; refused(pile.set_window(u32::MAX, good)), Some(16));
+    assert_eq!(rt; refused(pile.set_window(0, window(4097, 8, 4))), Some(16));
+    assert_eq!(rt; refused(pile.set_window(0, window(0, 4097, 4))), Some(16));
+    assert_eq!(rt; refused(pile.set_window(0, window(0, 8, 65))), Some(16));
     assert_eq!(rt;
         (
             pile.capacity(4, 1),
@@ -244,36 +143,12 @@ fn a_bad_place_or_number_leaves_the_windows(rt: HostRuntime) {
 #[test]
 fn degenerate_outages_mark_and_take_nothing_out(rt: HostRuntime) {
     let rows = [
-        Outage {
-            core: 0,
-            from: 3,
-            to: 3,
-        },
-        Outage {
-            core: 1,
-            from: 5,
-            to: 2,
-        },
-        Outage {
-            core: 9,
-            from: 1,
-            to: 6,
-        },
-        Outage {
-            core: 64,
-            from: 0,
-            to: 8,
-        },
-        Outage {
-            core: u32::MAX,
-            from: 7,
-            to: u32::MAX,
-        },
-        Outage {
-            core: 2,
-            from: u32::MAX,
-            to: u32::MAX,
-        },
+        outage(0, 3, 3),
+        outage(1, 5, 2),
+        outage(9, 1, 6),
+        outage(64, 0, 8),
+        outage(u32::MAX, 7, u32::MAX),
+        outage(2, u32::MAX, u32::MAX),
     ];
     let calendar = Calendar::new(&rows, 8, 4);
     let mut slot = 0;
@@ -287,26 +162,10 @@ fn degenerate_outages_mark_and_take_nothing_out(rt: HostRuntime) {
 
 #[test]
 fn only_the_first_64_rows_are_read(rt: HostRuntime) {
-    let mut rows = [Outage {
-        core: 0,
-        from: 0,
-        to: 2,
-    }; 66];
-    rows[63] = Outage {
-        core: 1,
-        from: 3,
-        to: 4,
-    };
-    rows[64] = Outage {
-        core: 2,
-        from: 5,
-        to: 6,
-    };
-    rows[65] = Outage {
-        core: 3,
-        from: 0,
-        to: 8,
-    };
+    let mut rows = [outage(0, 0, 2); 66];
+    rows[63] = outage(1, 3, 4);
+    rows[64] = outage(2, 5, 6);
+    rows[65] = outage(3, 0, 8);
     let calendar = Calendar::new(&rows, 8, 4);
     assert_eq!(rt;
         (
@@ -329,61 +188,26 @@ fn only_the_first_64_rows_are_read(rt: HostRuntime) {
 
 #[test]
 fn each_cool_down_is_checked_at_its_limits(rt: HostRuntime) {
-    let numbers = [
-        (1, 0, 0, 0),
-        (4096, 4096, 64, 0),
-        (0, 0, 0, 16),
-        (4097, 0, 0, 16),
-        (1, 4097, 0, 16),
-        (1, 0, 65, 16),
-        (u32::MAX, u32::MAX, u32::MAX, 16),
+    let schedules = [
+        (schedule(1, 0, 0), None),
+        (schedule(4096, 4096, 64), None),
+        (schedule(0, 0, 0), Some(16)),
+        (schedule(4097, 0, 0), Some(16)),
+        (schedule(1, 4097, 0), Some(16)),
+        (schedule(1, 0, 65), Some(16)),
+        (schedule(u32::MAX, u32::MAX, u32::MAX), Some(16)),
     ];
-    for (period, rest, limit, number) in numbers {
-        assert_eq!(rt;
-            refused(check_cool_down(Schedule {
-                period,
-                rest,
-                limit,
-            })),
-            number
-        );
+    for (schedule, number) in schedules {
+        assert_eq!(rt; refused(check_cool_down(schedule)), number);
     }
 }
 
 #[test]
 fn a_rest_of_none_of_the_period_or_of_more(rt: HostRuntime) {
-    let none = CoolDown::new(
-        Even::new(9, 4),
-        Schedule {
-            period: 4,
-            rest: 0,
-            limit: 1,
-        },
-    );
-    let all = CoolDown::new(
-        Even::new(9, 4),
-        Schedule {
-            period: 4,
-            rest: 4,
-            limit: 1,
-        },
-    );
-    let more = CoolDown::new(
-        Even::new(9, 4),
-        Schedule {
-            period: 4,
-            rest: 5,
-            limit: 1,
-        },
-    );
-    let clamped = CoolDown::new(
-        Even::new(9, 64),
-        Schedule {
-            period: 0,
-            rest: u32::MAX,
-            limit: u32::MAX,
-        },
-    );
+    let none = CoolDown::new(Even::new(9, 4), schedule(4, 0, 1));
+    let all = CoolDown::new(Even::new(9, 4), schedule(4, 4, 1));
+    let more = CoolDown::new(Even::new(9, 4), schedule(4, 5, 1));
+    let clamped = CoolDown::new(Even::new(9, 64), schedule(0, u32::MAX, u32::MAX));
     for slot in 0..9u32 {
         assert_eq!(rt;
             (
@@ -406,14 +230,7 @@ fn a_rest_of_none_of_the_period_or_of_more(rt: HostRuntime) {
             (64, 9)
         );
     }
-    let one = CoolDown::new(
-        Even::new(9, 4),
-        Schedule {
-            period: 4,
-            rest: 1,
-            limit: 1,
-        },
-    );
+    let one = CoolDown::new(Even::new(9, 4), schedule(4, 1, 1));
     assert_eq!(rt;
         (
             one.mark_after(0),
@@ -429,49 +246,20 @@ fn a_rest_of_none_of_the_period_or_of_more(rt: HostRuntime) {
 // A pile of all layers.
 fn pile(rows: &[Outage]) -> CoolDown<HostReserve<Calendar<'_>>> {
     let calendar = Calendar::new(rows, 20, 6);
-    let reserve = HostReserve::new(
-        calendar,
-        table_with(
-            3,
-            Window {
-                from: 4,
-                to: 9,
-                count: 2,
-            },
-        ),
-    );
-    CoolDown::new(
-        reserve,
-        Schedule {
-            period: 5,
-            rest: 2,
-            limit: 3,
-        },
-    )
+    let reserve = HostReserve::new(calendar, table_with(3, window(4, 9, 2)));
+    CoolDown::new(reserve, schedule(5, 2, 3))
 }
 
 // Compares the levels 0 to 64 of one slot, asked at once and one by one.
 fn compare_levels<B: Bank>(rt: &impl Abort, cores: &B, slot: u32) {
-    let all = cores.capacities(slot);
-    for level in 0..65u32 {
-        assert_eq!(rt; all[level as usize], cores.capacity(level, slot));
+    for (level, capacity) in (0..65u32).zip(cores.capacities(slot)) {
+        assert_eq!(rt; capacity, cores.capacity(level, slot));
     }
 }
 
 #[test]
 fn all_levels_at_once_are_the_levels_one_by_one(rt: HostRuntime) {
-    let rows = [
-        Outage {
-            core: 1,
-            from: 2,
-            to: 11,
-        },
-        Outage {
-            core: 4,
-            from: 6,
-            to: 17,
-        },
-    ];
+    let rows = [outage(1, 2, 11), outage(4, 6, 17)];
     let pile = pile(&rows);
     for slot in 0..22u32 {
         compare_levels(&rt, &pile, slot);
@@ -481,11 +269,7 @@ fn all_levels_at_once_are_the_levels_one_by_one(rt: HostRuntime) {
 
 #[test]
 fn questions_past_the_ends_are_answered(rt: HostRuntime) {
-    let rows = [Outage {
-        core: 1,
-        from: 2,
-        to: 11,
-    }];
+    let rows = [outage(1, 2, 11)];
     let pile = pile(&rows);
     for (level, slot) in [(0, 0), (7, 0), (u32::MAX, 0), (6, 20), (6, u32::MAX)] {
         assert_eq!(rt; pile.capacity(level, slot), 0);
@@ -543,7 +327,7 @@ fn refusals_are_numbered_from_1_to_18(rt: HostRuntime) {
         Refusal::CountAboveLimit,
         Refusal::OutputTooShort,
     ];
-    for (place, refusal) in all.iter().enumerate() {
-        assert_eq!(rt; refusal.number() as usize, place + 1);
+    for (number, refusal) in (1..19u32).zip(all) {
+        assert_eq!(rt; refusal.number(), number);
     }
 }

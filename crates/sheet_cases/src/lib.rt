@@ -1,1246 +1,403 @@
 // Faulty texts, each with the number and the place of its fault.
 #![tactic(auto)]
 
+use text::FaultPlace;
+
 // A text, and how it is refused: the number, and the place of the field at fault.
-#[derive(Clone, Copy)]
+#[derive(Clone, Copy, PartialEq, Eq, Debug)]
 pub struct Faulty {
     pub text: &'static [u8],
     pub number: u32,
-    pub section: u8,
-    pub line: usize,
-    pub byte: usize,
+    pub place: FaultPlace,
+}
+
+// A macro, since a static calls no function.
+macro_rules! faulty {
+    ($text:expr, $number:expr, $section:expr, $line:expr, $byte:expr) => {
+        Faulty {
+            text: $text,
+            number: $number,
+            place: FaultPlace {
+                section: $section,
+                line: $line,
+                byte: $byte,
+            },
+        }
+    };
 }
 
 static LINE_1: [Faulty; 30] = [
     // empty text
-    Faulty {
-        text: b"",
-        number: 15,
-        section: 0,
-        line: 1,
-        byte: 0,
-    },
+    faulty!(b"", 15, 0, 1, 0),
     // empty line before line 1
-    Faulty {
-        text: b"\n6 3\n0\n0\n0\n0\n",
-        number: 15,
-        section: 0,
-        line: 1,
-        byte: 0,
-    },
+    faulty!(b"\n6 3\n0\n0\n0\n0\n", 15, 0, 1, 0),
     // top unclosed
-    Faulty {
-        text: b"6 3",
-        number: 15,
-        section: 0,
-        line: 1,
-        byte: 2,
-    },
+    faulty!(b"6 3", 15, 0, 1, 2),
     // top missing
-    Faulty {
-        text: b"6\n0\n0\n0\n0\n",
-        number: 15,
-        section: 0,
-        line: 1,
-        byte: 2,
-    },
+    faulty!(b"6\n0\n0\n0\n0\n", 15, 0, 1, 2),
     // surplus field on line 1 is not looked at
-    Faulty {
-        text: b"6 3 x\n0\n0\n0\n0\n",
-        number: 15,
-        section: 0,
-        line: 1,
-        byte: 4,
-    },
+    faulty!(b"6 3 x\n0\n0\n0\n0\n", 15, 0, 1, 4),
     // leading space on line 1
-    Faulty {
-        text: b" 6 3\n0\n0\n0\n0\n",
-        number: 15,
-        section: 0,
-        line: 1,
-        byte: 0,
-    },
+    faulty!(b" 6 3\n0\n0\n0\n0\n", 15, 0, 1, 0),
     // top with a leading zero
-    Faulty {
-        text: b"6 03\n0\n0\n0\n0\n",
-        number: 15,
-        section: 0,
-        line: 1,
-        byte: 2,
-    },
+    faulty!(b"6 03\n0\n0\n0\n0\n", 15, 0, 1, 2),
     // top of seven digits
-    Faulty {
-        text: b"6 1000000\n0\n0\n0\n0\n",
-        number: 15,
-        section: 0,
-        line: 1,
-        byte: 2,
-    },
+    faulty!(b"6 1000000\n0\n0\n0\n0\n", 15, 0, 1, 2),
     // slots end with a letter
-    Faulty {
-        text: b"16x 3\n0\n0\n0\n0\n",
-        number: 15,
-        section: 0,
-        line: 1,
-        byte: 0,
-    },
+    faulty!(b"16x 3\n0\n0\n0\n0\n", 15, 0, 1, 0),
     // slots with a minus sign
-    Faulty {
-        text: b"-6 3\n0\n0\n0\n0\n",
-        number: 15,
-        section: 0,
-        line: 1,
-        byte: 0,
-    },
+    faulty!(b"-6 3\n0\n0\n0\n0\n", 15, 0, 1, 0),
     // comma between slots and top
-    Faulty {
-        text: b"6,3\n0\n0\n0\n0\n",
-        number: 15,
-        section: 0,
-        line: 1,
-        byte: 0,
-    },
+    faulty!(b"6,3\n0\n0\n0\n0\n", 15, 0, 1, 0),
     // carriage return before the line end
-    Faulty {
-        text: b"6 3\r\n0\n0\n0\n0\n",
-        number: 15,
-        section: 0,
-        line: 1,
-        byte: 2,
-    },
+    faulty!(b"6 3\r\n0\n0\n0\n0\n", 15, 0, 1, 2),
     // carriage return alone ends no line
-    Faulty {
-        text: b"6 3\r0\r0\r0\r0\r",
-        number: 15,
-        section: 0,
-        line: 1,
-        byte: 2,
-    },
+    faulty!(b"6 3\r0\r0\r0\r0\r", 15, 0, 1, 2),
     // tab between slots and top
-    Faulty {
-        text: b"6\t3\n0\n0\n0\n0\n",
-        number: 15,
-        section: 0,
-        line: 1,
-        byte: 0,
-    },
+    faulty!(b"6\t3\n0\n0\n0\n0\n", 15, 0, 1, 0),
     // tab after the space
-    Faulty {
-        text: b"6 \t3\n0\n0\n0\n0\n",
-        number: 15,
-        section: 0,
-        line: 1,
-        byte: 2,
-    },
+    faulty!(b"6 \t3\n0\n0\n0\n0\n", 15, 0, 1, 2),
     // byte 0 in slots
-    Faulty {
-        text: b"6\0 3\n0\n0\n0\n0\n",
-        number: 15,
-        section: 0,
-        line: 1,
-        byte: 0,
-    },
+    faulty!(b"6\0 3\n0\n0\n0\n0\n", 15, 0, 1, 0),
     // byte 0 in place of the space
-    Faulty {
-        text: b"6\x003\n0\n0\n0\n0\n",
-        number: 15,
-        section: 0,
-        line: 1,
-        byte: 0,
-    },
+    faulty!(b"6\x003\n0\n0\n0\n0\n", 15, 0, 1, 0),
     // byte 0 after the top
-    Faulty {
-        text: b"6 3\0\n0\n0\n0\n0\n",
-        number: 15,
-        section: 0,
-        line: 1,
-        byte: 2,
-    },
+    faulty!(b"6 3\0\n0\n0\n0\n0\n", 15, 0, 1, 2),
     // byte 128 in slots
-    Faulty {
-        text: b"\x806 3\n0\n0\n0\n0\n",
-        number: 15,
-        section: 0,
-        line: 1,
-        byte: 0,
-    },
+    faulty!(b"\x806 3\n0\n0\n0\n0\n", 15, 0, 1, 0),
     // byte 255 in the top
-    Faulty {
-        text: b"6 \xff\n0\n0\n0\n0\n",
-        number: 15,
-        section: 0,
-        line: 1,
-        byte: 2,
-    },
+    faulty!(b"6 \xff\n0\n0\n0\n0\n", 15, 0, 1, 2),
     // byte order mark before slots
-    Faulty {
-        text: b"\xef\xbb\xbf6 3\n0\n0\n0\n0\n",
-        number: 15,
-        section: 0,
-        line: 1,
-        byte: 0,
-    },
+    faulty!(b"\xef\xbb\xbf6 3\n0\n0\n0\n0\n", 15, 0, 1, 0),
     // no break space between slots and top
-    Faulty {
-        text: b"6\xc2\xa03\n0\n0\n0\n0\n",
-        number: 15,
-        section: 0,
-        line: 1,
-        byte: 0,
-    },
+    faulty!(b"6\xc2\xa03\n0\n0\n0\n0\n", 15, 0, 1, 0),
     // digit with its high bit set
-    Faulty {
-        text: b"\xb6 3\n0\n0\n0\n0\n",
-        number: 15,
-        section: 0,
-        line: 1,
-        byte: 0,
-    },
+    faulty!(b"\xb6 3\n0\n0\n0\n0\n", 15, 0, 1, 0),
     // slots 4097
-    Faulty {
-        text: b"4097 3\n0\n0\n0\n0\n",
-        number: 16,
-        section: 0,
-        line: 1,
-        byte: 0,
-    },
+    faulty!(b"4097 3\n0\n0\n0\n0\n", 16, 0, 1, 0),
     // top 65 after four digits
-    Faulty {
-        text: b"4096 65\n0\n0\n0\n0\n",
-        number: 16,
-        section: 0,
-        line: 1,
-        byte: 5,
-    },
+    faulty!(b"4096 65\n0\n0\n0\n0\n", 16, 0, 1, 5),
     // slots 0 before top 0
-    Faulty {
-        text: b"0 0\n0\n0\n0\n0\n",
-        number: 16,
-        section: 0,
-        line: 1,
-        byte: 0,
-    },
+    faulty!(b"0 0\n0\n0\n0\n0\n", 16, 0, 1, 0),
     // top 0 before a missing section
-    Faulty {
-        text: b"6 0\n",
-        number: 16,
-        section: 0,
-        line: 1,
-        byte: 2,
-    },
+    faulty!(b"6 0\n", 16, 0, 1, 2),
     // top 0 with a leading zero
-    Faulty {
-        text: b"6 000\n0\n0\n0\n0\n",
-        number: 15,
-        section: 0,
-        line: 1,
-        byte: 2,
-    },
+    faulty!(b"6 000\n0\n0\n0\n0\n", 15, 0, 1, 2),
     // full sheet slots 0
-    Faulty {
-        text: b"0 3\n1\n0 2 4\n1\n0 4 1\n1\n4 1 1\n1\n7 0 2 4 2\n",
-        number: 16,
-        section: 0,
-        line: 1,
-        byte: 0,
-    },
+    faulty!(
+        b"0 3\n1\n0 2 4\n1\n0 4 1\n1\n4 1 1\n1\n7 0 2 4 2\n",
+        16,
+        0,
+        1,
+        0
+    ),
     // full sheet with carriage returns
-    Faulty {
-        text: b"6 3\r\n1\r\n0 2 4\r\n1\r\n0 4 1\r\n1\r\n4 1 1\r\n1\r\n7 0 2 4 2\r\n",
-        number: 15,
-        section: 0,
-        line: 1,
-        byte: 2,
-    },
+    faulty!(
+        b"6 3\r\n1\r\n0 2 4\r\n1\r\n0 4 1\r\n1\r\n4 1 1\r\n1\r\n7 0 2 4 2\r\n",
+        15,
+        0,
+        1,
+        2
+    ),
 ];
 
 static OUTAGES: [Faulty; 20] = [
     // outage count empty before a space
-    Faulty {
-        text: b"6 3\n \n0\n0\n0\n",
-        number: 15,
-        section: 1,
-        line: 2,
-        byte: 0,
-    },
+    faulty!(b"6 3\n \n0\n0\n0\n", 15, 1, 2, 0),
     // outage count of two zeros
-    Faulty {
-        text: b"6 3\n00\n0\n0\n0\n",
-        number: 15,
-        section: 1,
-        line: 2,
-        byte: 0,
-    },
+    faulty!(b"6 3\n00\n0\n0\n0\n", 15, 1, 2, 0),
     // outage count with a carriage return
-    Faulty {
-        text: b"6 3\n0\r\n0\n0\n0\n",
-        number: 15,
-        section: 1,
-        line: 2,
-        byte: 0,
-    },
+    faulty!(b"6 3\n0\r\n0\n0\n0\n", 15, 1, 2, 0),
     // outage count of seven digits
-    Faulty {
-        text: b"6 3\n1000000\n",
-        number: 15,
-        section: 1,
-        line: 2,
-        byte: 0,
-    },
+    faulty!(b"6 3\n1000000\n", 15, 1, 2, 0),
     // text ends after a space past the outage count
-    Faulty {
-        text: b"6 3\n0 ",
-        number: 15,
-        section: 1,
-        line: 2,
-        byte: 2,
-    },
+    faulty!(b"6 3\n0 ", 15, 1, 2, 2),
     // outage count 65
-    Faulty {
-        text: b"6 3\n65\n",
-        number: 17,
-        section: 1,
-        line: 2,
-        byte: 0,
-    },
+    faulty!(b"6 3\n65\n", 17, 1, 2, 0),
     // outage count 999999
-    Faulty {
-        text: b"6 3\n999999\n",
-        number: 17,
-        section: 1,
-        line: 2,
-        byte: 0,
-    },
+    faulty!(b"6 3\n999999\n", 17, 1, 2, 0),
     // outage count 65 before a surplus field
-    Faulty {
-        text: b"6 3\n65 1\n",
-        number: 17,
-        section: 1,
-        line: 2,
-        byte: 0,
-    },
+    faulty!(b"6 3\n65 1\n", 17, 1, 2, 0),
     // outage count 65 before a trailing space
-    Faulty {
-        text: b"6 3\n65 \n",
-        number: 17,
-        section: 1,
-        line: 2,
-        byte: 0,
-    },
+    faulty!(b"6 3\n65 \n", 17, 1, 2, 0),
     // outage core 64
-    Faulty {
-        text: b"6 3\n1\n64 2 4\n0\n0\n0\n",
-        number: 16,
-        section: 1,
-        line: 3,
-        byte: 0,
-    },
+    faulty!(b"6 3\n1\n64 2 4\n0\n0\n0\n", 16, 1, 3, 0),
     // outage with a leading space
-    Faulty {
-        text: b"6 3\n1\n 0 2 4\n0\n0\n0\n",
-        number: 15,
-        section: 1,
-        line: 3,
-        byte: 0,
-    },
+    faulty!(b"6 3\n1\n 0 2 4\n0\n0\n0\n", 15, 1, 3, 0),
     // outage from 4096 after two digits
-    Faulty {
-        text: b"6 3\n1\n63 4096 4\n0\n0\n0\n",
-        number: 16,
-        section: 1,
-        line: 3,
-        byte: 3,
-    },
+    faulty!(b"6 3\n1\n63 4096 4\n0\n0\n0\n", 16, 1, 3, 3),
     // outage to empty
-    Faulty {
-        text: b"6 3\n1\n0 2 \n0\n0\n0\n",
-        number: 15,
-        section: 1,
-        line: 3,
-        byte: 4,
-    },
+    faulty!(b"6 3\n1\n0 2 \n0\n0\n0\n", 15, 1, 3, 4),
     // outage to unclosed
-    Faulty {
-        text: b"6 3\n1\n0 2 4",
-        number: 15,
-        section: 1,
-        line: 3,
-        byte: 4,
-    },
+    faulty!(b"6 3\n1\n0 2 4", 15, 1, 3, 4),
     // outage to with a carriage return
-    Faulty {
-        text: b"6 3\n1\n0 2 4\r\n0\n0\n0\n",
-        number: 15,
-        section: 1,
-        line: 3,
-        byte: 4,
-    },
+    faulty!(b"6 3\n1\n0 2 4\r\n0\n0\n0\n", 15, 1, 3, 4),
     // text ends after a space past an outage
-    Faulty {
-        text: b"6 3\n1\n0 2 4 ",
-        number: 15,
-        section: 1,
-        line: 3,
-        byte: 6,
-    },
+    faulty!(b"6 3\n1\n0 2 4 ", 15, 1, 3, 6),
     // outage core 64 before a malformed from
-    Faulty {
-        text: b"6 3\n1\n64 x 4\n0\n0\n0\n",
-        number: 16,
-        section: 1,
-        line: 3,
-        byte: 0,
-    },
+    faulty!(b"6 3\n1\n64 x 4\n0\n0\n0\n", 16, 1, 3, 0),
     // two outages on one line
-    Faulty {
-        text: b"6 3\n2\n0 2 4 1 2 4\n0\n0\n0\n",
-        number: 15,
-        section: 1,
-        line: 3,
-        byte: 6,
-    },
+    faulty!(b"6 3\n2\n0 2 4 1 2 4\n0\n0\n0\n", 15, 1, 3, 6),
     // no outage of one
-    Faulty {
-        text: b"6 3\n1\n0\n0\n0\n",
-        number: 15,
-        section: 1,
-        line: 3,
-        byte: 2,
-    },
+    faulty!(b"6 3\n1\n0\n0\n0\n", 15, 1, 3, 2),
     // first fault is in the earliest section
-    Faulty {
-        text: b"6 3\n1\n64 2 4\n9\n",
-        number: 16,
-        section: 1,
-        line: 3,
-        byte: 0,
-    },
+    faulty!(b"6 3\n1\n64 2 4\n9\n", 16, 1, 3, 0),
 ];
 
 static WINDOWS_AND_COOL_DOWN: [Faulty; 30] = [
     // window count line empty
-    Faulty {
-        text: b"6 3\n0\n\n0\n0\n",
-        number: 15,
-        section: 2,
-        line: 3,
-        byte: 0,
-    },
+    faulty!(b"6 3\n0\n\n0\n0\n", 15, 2, 3, 0),
     // window count of seven digits
-    Faulty {
-        text: b"6 3\n0\n1000000\n",
-        number: 15,
-        section: 2,
-        line: 3,
-        byte: 0,
-    },
+    faulty!(b"6 3\n0\n1000000\n", 15, 2, 3, 0),
     // window count 9
-    Faulty {
-        text: b"6 3\n0\n9\n",
-        number: 17,
-        section: 2,
-        line: 3,
-        byte: 0,
-    },
+    faulty!(b"6 3\n0\n9\n", 17, 2, 3, 0),
     // window count 64
-    Faulty {
-        text: b"6 3\n0\n64\n",
-        number: 17,
-        section: 2,
-        line: 3,
-        byte: 0,
-    },
+    faulty!(b"6 3\n0\n64\n", 17, 2, 3, 0),
     // window count 9 before a surplus field
-    Faulty {
-        text: b"6 3\n0\n9 1\n",
-        number: 17,
-        section: 2,
-        line: 3,
-        byte: 0,
-    },
+    faulty!(b"6 3\n0\n9 1\n", 17, 2, 3, 0),
     // cool down count line missing
-    Faulty {
-        text: b"6 3\n0\n0\n",
-        number: 15,
-        section: 3,
-        line: 4,
-        byte: 0,
-    },
+    faulty!(b"6 3\n0\n0\n", 15, 3, 4, 0),
     // cool down count a letter
-    Faulty {
-        text: b"6 3\n0\n0\nx\n0\n",
-        number: 15,
-        section: 3,
-        line: 4,
-        byte: 0,
-    },
+    faulty!(b"6 3\n0\n0\nx\n0\n", 15, 3, 4, 0),
     // text ends after a space past the cool down count
-    Faulty {
-        text: b"6 3\n0\n0\n1 ",
-        number: 15,
-        section: 3,
-        line: 4,
-        byte: 2,
-    },
+    faulty!(b"6 3\n0\n0\n1 ", 15, 3, 4, 2),
     // cool down count 2
-    Faulty {
-        text: b"6 3\n0\n0\n2\n4 1 1\n4 1 1\n0\n",
-        number: 17,
-        section: 3,
-        line: 4,
-        byte: 0,
-    },
+    faulty!(b"6 3\n0\n0\n2\n4 1 1\n4 1 1\n0\n", 17, 3, 4, 0),
     // cool down count 2 before a surplus field
-    Faulty {
-        text: b"6 3\n0\n0\n2 1\n",
-        number: 17,
-        section: 3,
-        line: 4,
-        byte: 0,
-    },
+    faulty!(b"6 3\n0\n0\n2 1\n", 17, 3, 4, 0),
     // window from 4096
-    Faulty {
-        text: b"6 3\n0\n1\n4096 4 1\n0\n0\n",
-        number: 16,
-        section: 2,
-        line: 4,
-        byte: 0,
-    },
+    faulty!(b"6 3\n0\n1\n4096 4 1\n0\n0\n", 16, 2, 4, 0),
     // window to empty
-    Faulty {
-        text: b"6 3\n0\n1\n0  1\n0\n0\n",
-        number: 15,
-        section: 2,
-        line: 4,
-        byte: 2,
-    },
+    faulty!(b"6 3\n0\n1\n0  1\n0\n0\n", 15, 2, 4, 2),
     // window count field missing
-    Faulty {
-        text: b"6 3\n0\n1\n0 4\n0\n0\n",
-        number: 15,
-        section: 2,
-        line: 4,
-        byte: 4,
-    },
+    faulty!(b"6 3\n0\n1\n0 4\n0\n0\n", 15, 2, 4, 4),
     // window count field 65 after long fields
-    Faulty {
-        text: b"6 3\n0\n1\n4095 4096 65\n0\n0\n",
-        number: 16,
-        section: 2,
-        line: 4,
-        byte: 10,
-    },
+    faulty!(b"6 3\n0\n1\n4095 4096 65\n0\n0\n", 16, 2, 4, 10),
     // window with a trailing space
-    Faulty {
-        text: b"6 3\n0\n1\n0 4 1 \n0\n0\n",
-        number: 15,
-        section: 2,
-        line: 4,
-        byte: 6,
-    },
+    faulty!(b"6 3\n0\n1\n0 4 1 \n0\n0\n", 15, 2, 4, 6),
     // second window missing
-    Faulty {
-        text: b"6 3\n0\n2\n0 4 1\n",
-        number: 15,
-        section: 2,
-        line: 5,
-        byte: 0,
-    },
+    faulty!(b"6 3\n0\n2\n0 4 1\n", 15, 2, 5, 0),
     // period 0
-    Faulty {
-        text: b"6 3\n0\n0\n1\n0 1 1\n0\n",
-        number: 16,
-        section: 3,
-        line: 5,
-        byte: 0,
-    },
+    faulty!(b"6 3\n0\n0\n1\n0 1 1\n0\n", 16, 3, 5, 0),
     // rest missing
-    Faulty {
-        text: b"6 3\n0\n0\n1\n4\n0\n",
-        number: 15,
-        section: 3,
-        line: 5,
-        byte: 2,
-    },
+    faulty!(b"6 3\n0\n0\n1\n4\n0\n", 15, 3, 5, 2),
     // limit missing
-    Faulty {
-        text: b"6 3\n0\n0\n1\n4 1\n0\n",
-        number: 15,
-        section: 3,
-        line: 5,
-        byte: 4,
-    },
+    faulty!(b"6 3\n0\n0\n1\n4 1\n0\n", 15, 3, 5, 4),
     // limit unclosed
-    Faulty {
-        text: b"6 3\n0\n0\n1\n4 1 1",
-        number: 15,
-        section: 3,
-        line: 5,
-        byte: 4,
-    },
+    faulty!(b"6 3\n0\n0\n1\n4 1 1", 15, 3, 5, 4),
     // limit with byte 255
-    Faulty {
-        text: b"6 3\n0\n0\n1\n4 1 1\xff\n0\n",
-        number: 15,
-        section: 3,
-        line: 5,
-        byte: 4,
-    },
+    faulty!(b"6 3\n0\n0\n1\n4 1 1\xff\n0\n", 15, 3, 5, 4),
     // period 0 before missing fields
-    Faulty {
-        text: b"6 3\n0\n0\n1\n0\n0\n",
-        number: 16,
-        section: 3,
-        line: 5,
-        byte: 0,
-    },
+    faulty!(b"6 3\n0\n0\n1\n0\n0\n", 16, 3, 5, 0),
     // outage too many has a surplus field
-    Faulty {
-        text: b"6 3\n0\n0 2 4\n0\n0\n0\n",
-        number: 15,
-        section: 2,
-        line: 3,
-        byte: 2,
-    },
+    faulty!(b"6 3\n0\n0 2 4\n0\n0\n0\n", 15, 2, 3, 2),
     // outage too many has a count above the limit
-    Faulty {
-        text: b"6 3\n0\n9 2 4\n0\n0\n0\n",
-        number: 17,
-        section: 2,
-        line: 3,
-        byte: 0,
-    },
+    faulty!(b"6 3\n0\n9 2 4\n0\n0\n0\n", 17, 2, 3, 0),
     // window too many has a count above the limit
-    Faulty {
-        text: b"6 3\n0\n1\n0 4 1\n2 6 2\n0\n0\n",
-        number: 17,
-        section: 3,
-        line: 5,
-        byte: 0,
-    },
+    faulty!(b"6 3\n0\n1\n0 4 1\n2 6 2\n0\n0\n", 17, 3, 5, 0),
     // no cool down of one before no tickets
-    Faulty {
-        text: b"6 3\n0\n0\n1\n0\n",
-        number: 16,
-        section: 3,
-        line: 5,
-        byte: 0,
-    },
+    faulty!(b"6 3\n0\n0\n1\n0\n", 16, 3, 5, 0),
     // count line of windows left out
-    Faulty {
-        text: b"6 3\n0\n0\n4\n7 0 2 4 2\n9 0 4 4 1\n5 2 4 3 2\n6 2 4 2 2\n",
-        number: 17,
-        section: 3,
-        line: 4,
-        byte: 0,
-    },
+    faulty!(
+        b"6 3\n0\n0\n4\n7 0 2 4 2\n9 0 4 4 1\n5 2 4 3 2\n6 2 4 2 2\n",
+        17,
+        3,
+        4,
+        0
+    ),
     // full sheet window count line 9
-    Faulty {
-        text: b"6 3\n1\n0 2 4\n9\n0 4 1\n1\n4 1 1\n1\n7 0 2 4 2\n",
-        number: 17,
-        section: 2,
-        line: 4,
-        byte: 0,
-    },
+    faulty!(
+        b"6 3\n1\n0 2 4\n9\n0 4 1\n1\n4 1 1\n1\n7 0 2 4 2\n",
+        17,
+        2,
+        4,
+        0
+    ),
     // full sheet window count 0
-    Faulty {
-        text: b"6 3\n1\n0 2 4\n1\n0 4 0\n1\n4 1 1\n1\n7 0 2 4 2\n",
-        number: 16,
-        section: 2,
-        line: 5,
-        byte: 4,
-    },
+    faulty!(
+        b"6 3\n1\n0 2 4\n1\n0 4 0\n1\n4 1 1\n1\n7 0 2 4 2\n",
+        16,
+        2,
+        5,
+        4
+    ),
     // full sheet cool down count line 2
-    Faulty {
-        text: b"6 3\n1\n0 2 4\n1\n0 4 1\n2\n4 1 1\n1\n7 0 2 4 2\n",
-        number: 17,
-        section: 3,
-        line: 6,
-        byte: 0,
-    },
+    faulty!(
+        b"6 3\n1\n0 2 4\n1\n0 4 1\n2\n4 1 1\n1\n7 0 2 4 2\n",
+        17,
+        3,
+        6,
+        0
+    ),
 ];
 
 static TICKETS: [Faulty; 28] = [
     // ticket count line missing
-    Faulty {
-        text: b"6 3\n0\n0\n0\n",
-        number: 15,
-        section: 4,
-        line: 5,
-        byte: 0,
-    },
+    faulty!(b"6 3\n0\n0\n0\n", 15, 4, 5, 0),
     // ticket count a letter
-    Faulty {
-        text: b"6 3\n0\n0\n0\nx\n",
-        number: 15,
-        section: 4,
-        line: 5,
-        byte: 0,
-    },
+    faulty!(b"6 3\n0\n0\n0\nx\n", 15, 4, 5, 0),
     // text ends after a space past the ticket count
-    Faulty {
-        text: b"6 3\n0\n0\n0\n0 ",
-        number: 15,
-        section: 4,
-        line: 5,
-        byte: 2,
-    },
+    faulty!(b"6 3\n0\n0\n0\n0 ", 15, 4, 5, 2),
     // ticket count with a carriage return
-    Faulty {
-        text: b"6 3\n0\n0\n0\n0\r\n",
-        number: 15,
-        section: 4,
-        line: 5,
-        byte: 0,
-    },
+    faulty!(b"6 3\n0\n0\n0\n0\r\n", 15, 4, 5, 0),
     // ticket count 65
-    Faulty {
-        text: b"6 3\n0\n0\n0\n65\n",
-        number: 17,
-        section: 4,
-        line: 5,
-        byte: 0,
-    },
+    faulty!(b"6 3\n0\n0\n0\n65\n", 17, 4, 5, 0),
     // ticket count 65 before a surplus field
-    Faulty {
-        text: b"6 3\n0\n0\n0\n65 1\n",
-        number: 17,
-        section: 4,
-        line: 5,
-        byte: 0,
-    },
+    faulty!(b"6 3\n0\n0\n0\n65 1\n", 17, 4, 5, 0),
     // ticket count 65 unclosed
-    Faulty {
-        text: b"6 3\n0\n0\n0\n65",
-        number: 15,
-        section: 4,
-        line: 5,
-        byte: 0,
-    },
+    faulty!(b"6 3\n0\n0\n0\n65", 15, 4, 5, 0),
     // ticket line empty
-    Faulty {
-        text: b"6 3\n0\n0\n0\n1\n\n",
-        number: 15,
-        section: 4,
-        line: 6,
-        byte: 0,
-    },
+    faulty!(b"6 3\n0\n0\n0\n1\n\n", 15, 4, 6, 0),
     // job number with a leading zero
-    Faulty {
-        text: b"6 3\n0\n0\n0\n1\n07 0 2 4 2\n",
-        number: 15,
-        section: 4,
-        line: 6,
-        byte: 0,
-    },
+    faulty!(b"6 3\n0\n0\n0\n1\n07 0 2 4 2\n", 15, 4, 6, 0),
     // arrival unclosed
-    Faulty {
-        text: b"6 3\n0\n0\n0\n1\n7 0",
-        number: 15,
-        section: 4,
-        line: 6,
-        byte: 2,
-    },
+    faulty!(b"6 3\n0\n0\n0\n1\n7 0", 15, 4, 6, 2),
     // deadline missing
-    Faulty {
-        text: b"6 3\n0\n0\n0\n1\n7 0\n",
-        number: 15,
-        section: 4,
-        line: 6,
-        byte: 4,
-    },
+    faulty!(b"6 3\n0\n0\n0\n1\n7 0\n", 15, 4, 6, 4),
     // deadline 4097
-    Faulty {
-        text: b"6 3\n0\n0\n0\n1\n7 0 4097 4 2\n",
-        number: 16,
-        section: 4,
-        line: 6,
-        byte: 4,
-    },
+    faulty!(b"6 3\n0\n0\n0\n1\n7 0 4097 4 2\n", 16, 4, 6, 4),
     // work 0
-    Faulty {
-        text: b"6 3\n0\n0\n0\n1\n7 0 2 0 2\n",
-        number: 16,
-        section: 4,
-        line: 6,
-        byte: 6,
-    },
+    faulty!(b"6 3\n0\n0\n0\n1\n7 0 2 0 2\n", 16, 4, 6, 6),
     // bound unclosed
-    Faulty {
-        text: b"6 3\n0\n0\n0\n1\n7 0 2 4 2",
-        number: 15,
-        section: 4,
-        line: 6,
-        byte: 8,
-    },
+    faulty!(b"6 3\n0\n0\n0\n1\n7 0 2 4 2", 15, 4, 6, 8),
     // bound 65
-    Faulty {
-        text: b"6 3\n0\n0\n0\n1\n7 0 2 4 65\n",
-        number: 16,
-        section: 4,
-        line: 6,
-        byte: 8,
-    },
+    faulty!(b"6 3\n0\n0\n0\n1\n7 0 2 4 65\n", 16, 4, 6, 8),
     // bound with a carriage return
-    Faulty {
-        text: b"6 3\n0\n0\n0\n1\n7 0 2 4 2\r\n",
-        number: 15,
-        section: 4,
-        line: 6,
-        byte: 8,
-    },
+    faulty!(b"6 3\n0\n0\n0\n1\n7 0 2 4 2\r\n", 15, 4, 6, 8),
     // ticket with a surplus field
-    Faulty {
-        text: b"6 3\n0\n0\n0\n1\n7 0 2 4 2 1\n",
-        number: 15,
-        section: 4,
-        line: 6,
-        byte: 10,
-    },
+    faulty!(b"6 3\n0\n0\n0\n1\n7 0 2 4 2 1\n", 15, 4, 6, 10),
     // job number 0 before missing fields
-    Faulty {
-        text: b"6 3\n0\n0\n0\n1\n0\n",
-        number: 16,
-        section: 4,
-        line: 6,
-        byte: 0,
-    },
+    faulty!(b"6 3\n0\n0\n0\n1\n0\n", 16, 4, 6, 0),
     // bound 65 unclosed
-    Faulty {
-        text: b"6 3\n0\n0\n0\n1\n7 0 2 4 65",
-        number: 15,
-        section: 4,
-        line: 6,
-        byte: 8,
-    },
+    faulty!(b"6 3\n0\n0\n0\n1\n7 0 2 4 65", 15, 4, 6, 8),
     // second cool down has a count above the limit
-    Faulty {
-        text: b"6 3\n0\n0\n1\n4 1 1\n65 1 1\n0\n",
-        number: 17,
-        section: 4,
-        line: 6,
-        byte: 0,
-    },
+    faulty!(b"6 3\n0\n0\n1\n4 1 1\n65 1 1\n0\n", 17, 4, 6, 0),
     // ticket too many
-    Faulty {
-        text: b"6 3\n0\n0\n0\n0\n7 0 2 4 2\n",
-        number: 15,
-        section: 4,
-        line: 6,
-        byte: 0,
-    },
+    faulty!(b"6 3\n0\n0\n0\n0\n7 0 2 4 2\n", 15, 4, 6, 0),
     // space after the last line
-    Faulty {
-        text: b"6 3\n0\n0\n0\n0\n ",
-        number: 15,
-        section: 4,
-        line: 6,
-        byte: 0,
-    },
+    faulty!(b"6 3\n0\n0\n0\n0\n ", 15, 4, 6, 0),
     // byte 0 after the last line
-    Faulty {
-        text: b"6 3\n0\n0\n0\n0\n\0",
-        number: 15,
-        section: 4,
-        line: 6,
-        byte: 0,
-    },
+    faulty!(b"6 3\n0\n0\n0\n0\n\0", 15, 4, 6, 0),
     // control z after the last line
-    Faulty {
-        text: b"6 3\n0\n0\n0\n0\n\x1a",
-        number: 15,
-        section: 4,
-        line: 6,
-        byte: 0,
-    },
+    faulty!(b"6 3\n0\n0\n0\n0\n\x1a", 15, 4, 6, 0),
     // full sheet ticket count line 65
-    Faulty {
-        text: b"6 3\n1\n0 2 4\n1\n0 4 1\n1\n4 1 1\n65\n7 0 2 4 2\n",
-        number: 17,
-        section: 4,
-        line: 8,
-        byte: 0,
-    },
+    faulty!(
+        b"6 3\n1\n0 2 4\n1\n0 4 1\n1\n4 1 1\n65\n7 0 2 4 2\n",
+        17,
+        4,
+        8,
+        0
+    ),
     // full sheet ticket count line missing
-    Faulty {
-        text: b"6 3\n1\n0 2 4\n1\n0 4 1\n1\n4 1 1\n",
-        number: 15,
-        section: 4,
-        line: 8,
-        byte: 0,
-    },
+    faulty!(b"6 3\n1\n0 2 4\n1\n0 4 1\n1\n4 1 1\n", 15, 4, 8, 0),
     // full sheet with an empty line after it
-    Faulty {
-        text: b"6 3\n1\n0 2 4\n1\n0 4 1\n1\n4 1 1\n1\n7 0 2 4 2\n\n",
-        number: 15,
-        section: 4,
-        line: 10,
-        byte: 0,
-    },
+    faulty!(
+        b"6 3\n1\n0 2 4\n1\n0 4 1\n1\n4 1 1\n1\n7 0 2 4 2\n\n",
+        15,
+        4,
+        10,
+        0
+    ),
     // worked sheet empty line after it
-    Faulty {
-        text: b"6 3\n1\n0 2 4\n0\n0\n4\n7 0 2 4 2\n9 0 4 4 1\n5 2 4 3 2\n6 2 4 2 2\n\n",
-        number: 15,
-        section: 4,
-        line: 11,
-        byte: 0,
-    },
+    faulty!(
+        b"6 3\n1\n0 2 4\n0\n0\n4\n7 0 2 4 2\n9 0 4 4 1\n5 2 4 3 2\n6 2 4 2 2\n\n",
+        15,
+        4,
+        11,
+        0
+    ),
 ];
 
 // Scripts beside a sheet with four tickets.
 static SCRIPTS: [Faulty; 44] = [
     // empty line
-    Faulty {
-        text: b"\n",
-        number: 15,
-        section: 9,
-        line: 1,
-        byte: 0,
-    },
+    faulty!(b"\n", 15, 9, 1, 0),
     // space and line end
-    Faulty {
-        text: b" \n",
-        number: 15,
-        section: 9,
-        line: 1,
-        byte: 0,
-    },
+    faulty!(b" \n", 15, 9, 1, 0),
     // unknown letter with a number
-    Faulty {
-        text: b"B 1\n",
-        number: 15,
-        section: 9,
-        line: 1,
-        byte: 0,
-    },
+    faulty!(b"B 1\n", 15, 9, 1, 0),
     // small letter a
-    Faulty {
-        text: b"a 1\n",
-        number: 15,
-        section: 9,
-        line: 1,
-        byte: 0,
-    },
+    faulty!(b"a 1\n", 15, 9, 1, 0),
     // number in place of the letter
-    Faulty {
-        text: b"1\n",
-        number: 15,
-        section: 9,
-        line: 1,
-        byte: 0,
-    },
+    faulty!(b"1\n", 15, 9, 1, 0),
     // remark line
-    Faulty {
-        text: b"# admit\nA 1\n",
-        number: 15,
-        section: 9,
-        line: 1,
-        byte: 0,
-    },
+    faulty!(b"# admit\nA 1\n", 15, 9, 1, 0),
     // byte 255 before the letter
-    Faulty {
-        text: b"\xffS\n",
-        number: 15,
-        section: 9,
-        line: 1,
-        byte: 0,
-    },
+    faulty!(b"\xffS\n", 15, 9, 1, 0),
     // letter with its high bit set
-    Faulty {
-        text: b"\xd3\n",
-        number: 15,
-        section: 9,
-        line: 1,
-        byte: 0,
-    },
+    faulty!(b"\xd3\n", 15, 9, 1, 0),
     // admit without a number
-    Faulty {
-        text: b"A\n",
-        number: 15,
-        section: 9,
-        line: 1,
-        byte: 2,
-    },
+    faulty!(b"A\n", 15, 9, 1, 2),
     // admit with an empty number
-    Faulty {
-        text: b"A \n",
-        number: 15,
-        section: 9,
-        line: 1,
-        byte: 2,
-    },
+    faulty!(b"A \n", 15, 9, 1, 2),
     // admit without the space
-    Faulty {
-        text: b"A1\n",
-        number: 15,
-        section: 9,
-        line: 1,
-        byte: 0,
-    },
+    faulty!(b"A1\n", 15, 9, 1, 0),
     // admit as a word
-    Faulty {
-        text: b"ADMIT 1\n",
-        number: 15,
-        section: 9,
-        line: 1,
-        byte: 0,
-    },
+    faulty!(b"ADMIT 1\n", 15, 9, 1, 0),
     // admit with a double space
-    Faulty {
-        text: b"A  1\n",
-        number: 15,
-        section: 9,
-        line: 1,
-        byte: 2,
-    },
+    faulty!(b"A  1\n", 15, 9, 1, 2),
     // admit with a tab after the space
-    Faulty {
-        text: b"A \t1\n",
-        number: 15,
-        section: 9,
-        line: 1,
-        byte: 2,
-    },
+    faulty!(b"A \t1\n", 15, 9, 1, 2),
     // admit and text ends after a trailing space
-    Faulty {
-        text: b"A 1 ",
-        number: 15,
-        section: 9,
-        line: 1,
-        byte: 4,
-    },
+    faulty!(b"A 1 ", 15, 9, 1, 4),
     // admit with a surplus letter
-    Faulty {
-        text: b"A 1 S\n",
-        number: 15,
-        section: 9,
-        line: 1,
-        byte: 4,
-    },
+    faulty!(b"A 1 S\n", 15, 9, 1, 4),
     // admit number with a leading zero
-    Faulty {
-        text: b"A 01\n",
-        number: 15,
-        section: 9,
-        line: 1,
-        byte: 2,
-    },
+    faulty!(b"A 01\n", 15, 9, 1, 2),
     // admit number a letter
-    Faulty {
-        text: b"A x\n",
-        number: 15,
-        section: 9,
-        line: 1,
-        byte: 2,
-    },
+    faulty!(b"A x\n", 15, 9, 1, 2),
     // admit number with a minus sign
-    Faulty {
-        text: b"A -1\n",
-        number: 15,
-        section: 9,
-        line: 1,
-        byte: 2,
-    },
+    faulty!(b"A -1\n", 15, 9, 1, 2),
     // admit number with byte 0
-    Faulty {
-        text: b"A 1\0\n",
-        number: 15,
-        section: 9,
-        line: 1,
-        byte: 2,
-    },
+    faulty!(b"A 1\0\n", 15, 9, 1, 2),
     // admit ticket 5 of 4
-    Faulty {
-        text: b"A 5\n",
-        number: 13,
-        section: 9,
-        line: 1,
-        byte: 2,
-    },
+    faulty!(b"A 5\n", 13, 9, 1, 2),
     // admit ticket 5 unclosed
-    Faulty {
-        text: b"A 5",
-        number: 15,
-        section: 9,
-        line: 1,
-        byte: 2,
-    },
+    faulty!(b"A 5", 15, 9, 1, 2),
     // admit ticket 5 before a trailing space
-    Faulty {
-        text: b"A 5 \n",
-        number: 13,
-        section: 9,
-        line: 1,
-        byte: 2,
-    },
+    faulty!(b"A 5 \n", 13, 9, 1, 2),
     // admit ticket 0 before a space and the end
-    Faulty {
-        text: b"A 0 ",
-        number: 13,
-        section: 9,
-        line: 1,
-        byte: 2,
-    },
+    faulty!(b"A 0 ", 13, 9, 1, 2),
     // unknown letter before admit ticket 9
-    Faulty {
-        text: b"X\nA 9\n",
-        number: 15,
-        section: 9,
-        line: 1,
-        byte: 0,
-    },
+    faulty!(b"X\nA 9\n", 15, 9, 1, 0),
     // withdraw unclosed
-    Faulty {
-        text: b"W",
-        number: 15,
-        section: 9,
-        line: 1,
-        byte: 0,
-    },
+    faulty!(b"W", 15, 9, 1, 0),
     // withdraw and text ends after the space
-    Faulty {
-        text: b"W ",
-        number: 15,
-        section: 9,
-        line: 1,
-        byte: 2,
-    },
+    faulty!(b"W ", 15, 9, 1, 2),
     // withdraw without the space
-    Faulty {
-        text: b"W7\n",
-        number: 15,
-        section: 9,
-        line: 1,
-        byte: 0,
-    },
+    faulty!(b"W7\n", 15, 9, 1, 0),
     // withdraw number with a leading zero
-    Faulty {
-        text: b"W 07\n",
-        number: 15,
-        section: 9,
-        line: 1,
-        byte: 2,
-    },
+    faulty!(b"W 07\n", 15, 9, 1, 2),
     // withdraw number of seven digits
-    Faulty {
-        text: b"W 1000000\n",
-        number: 15,
-        section: 9,
-        line: 1,
-        byte: 2,
-    },
+    faulty!(b"W 1000000\n", 15, 9, 1, 2),
     // withdraw with a surplus field
-    Faulty {
-        text: b"W 10000 5\n",
-        number: 15,
-        section: 9,
-        line: 1,
-        byte: 8,
-    },
+    faulty!(b"W 10000 5\n", 15, 9, 1, 8),
     // withdraw 0 with a surplus field
-    Faulty {
-        text: b"W 0 0\n",
-        number: 15,
-        section: 9,
-        line: 1,
-        byte: 4,
-    },
+    faulty!(b"W 0 0\n", 15, 9, 1, 4),
     // finish step with a number
-    Faulty {
-        text: b"S 1\n",
-        number: 15,
-        section: 9,
-        line: 1,
-        byte: 2,
-    },
+    faulty!(b"S 1\n", 15, 9, 1, 2),
     // finish step and text ends after the space
-    Faulty {
-        text: b"S ",
-        number: 15,
-        section: 9,
-        line: 1,
-        byte: 2,
-    },
+    faulty!(b"S ", 15, 9, 1, 2),
     // finish step twice on one line
-    Faulty {
-        text: b"SS\n",
-        number: 15,
-        section: 9,
-        line: 1,
-        byte: 0,
-    },
+    faulty!(b"SS\n", 15, 9, 1, 0),
     // finish step with a carriage return
-    Faulty {
-        text: b"S\r\n",
-        number: 15,
-        section: 9,
-        line: 1,
-        byte: 0,
-    },
+    faulty!(b"S\r\n", 15, 9, 1, 0),
     // take back step unclosed
-    Faulty {
-        text: b"T",
-        number: 15,
-        section: 9,
-        line: 1,
-        byte: 0,
-    },
+    faulty!(b"T", 15, 9, 1, 0),
     // take back step with a trailing space
-    Faulty {
-        text: b"T \n",
-        number: 15,
-        section: 9,
-        line: 1,
-        byte: 2,
-    },
+    faulty!(b"T \n", 15, 9, 1, 2),
     // take back step joined to a letter
-    Faulty {
-        text: b"TS\n",
-        number: 15,
-        section: 9,
-        line: 1,
-        byte: 0,
-    },
+    faulty!(b"TS\n", 15, 9, 1, 0),
     // empty line in the middle
-    Faulty {
-        text: b"A 1\n\nS\n",
-        number: 15,
-        section: 9,
-        line: 2,
-        byte: 0,
-    },
+    faulty!(b"A 1\n\nS\n", 15, 9, 2, 0),
     // byte 0 after the last step
-    Faulty {
-        text: b"S\n\0",
-        number: 15,
-        section: 9,
-        line: 2,
-        byte: 0,
-    },
+    faulty!(b"S\n\0", 15, 9, 2, 0),
     // last admit unclosed
-    Faulty {
-        text: b"A 1\nA 2",
-        number: 15,
-        section: 9,
-        line: 2,
-        byte: 2,
-    },
+    faulty!(b"A 1\nA 2", 15, 9, 2, 2),
     // fifth ticket on the fifth line
-    Faulty {
-        text: b"A 1\nA 2\nA 3\nA 4\nA 5\n",
-        number: 13,
-        section: 9,
-        line: 5,
-        byte: 2,
-    },
+    faulty!(b"A 1\nA 2\nA 3\nA 4\nA 5\n", 13, 9, 5, 2),
     // withdraw any number then ticket 0
-    Faulty {
-        text: b"W 0\nW 999999\nA 0\n",
-        number: 13,
-        section: 9,
-        line: 3,
-        byte: 2,
-    },
+    faulty!(b"W 0\nW 999999\nA 0\n", 13, 9, 3, 2),
 ];
 
 #[cfg(test)]

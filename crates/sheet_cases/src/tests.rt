@@ -5,10 +5,10 @@ use calendar::Outage;
 use cooldown::Schedule;
 use reserve::Window;
 use script::{Command, read_script};
-use sheet::{read_sheet, write_sheet};
+use sheet::{Extent, SheetHead, read_sheet, write_sheet};
 use std::process::Abort;
 use std::test::Fail;
-use text::FaultPlace;
+use text::{FaultPlace, ReadFault};
 
 const OUTAGE: Outage = Outage {
     core: 7,
@@ -30,88 +30,92 @@ const TICKET: Ticket = Ticket {
     bound: 7,
 };
 
-fn check_fault(rt: &impl Abort, faulty: &Faulty) -> Result<(), Fail> {
-    let mut outages = [OUTAGE; 64];
-    let mut windows = [WINDOW; 8];
-    let mut tickets = [TICKET; 64];
-    match read_sheet(faulty.text, &mut outages, &mut windows, &mut tickets) {
-        Ok(_) => Err(Fail::new("a faulty text is accepted")),
-        Err(fault) => {
-            assert_eq!(rt; fault.number(), faulty.number);
-            let place = FaultPlace {
-                section: faulty.section,
-                line: faulty.line,
-                byte: faulty.byte,
-            };
-            assert_eq!(rt; fault.place(), Some(place));
-            assert!(rt; outages == [OUTAGE; 64]);
-            assert!(rt; windows == [WINDOW; 8]);
-            assert!(rt; tickets == [TICKET; 64]);
-            Ok(())
+// The lists that a sheet is read into.
+#[derive(Clone, Copy, PartialEq, Eq, Debug)]
+struct Lists {
+    outages: [Outage; 64],
+    windows: [Window; 8],
+    tickets: [Ticket; 64],
+}
+
+impl Lists {
+    // Nothing is read into them yet.
+    fn new() -> Lists {
+        Lists {
+            outages: [OUTAGE; 64],
+            windows: [WINDOW; 8],
+            tickets: [TICKET; 64],
         }
+    }
+
+    fn read(&mut self, text: &[u8]) -> Result<SheetHead, ReadFault> {
+        read_sheet(
+            text,
+            &mut self.outages,
+            &mut self.windows,
+            &mut self.tickets,
+        )
     }
 }
 
-fn check_faults(rt: &impl Abort, table: &[Faulty]) -> Result<(), Fail> {
+// How a text is refused: the number, and the place of the field at fault.
+fn refused<T: Drop>(read: Result<T, ReadFault>) -> Option<(u32, Option<FaultPlace>)> {
+    read.err().map(|fault| (fault.number(), fault.place()))
+}
+
+fn check_faults(rt: &impl Abort, table: &[Faulty]) {
     for faulty in table {
-        check_fault(rt, faulty)?;
+        let mut lists = Lists::new();
+        assert_eq!(rt;
+            refused(lists.read(faulty.text)),
+            Some((faulty.number, Some(faulty.place)))
+        );
+        assert_eq!(rt; lists, Lists::new());
     }
-    Ok(())
 }
 
 #[test]
-fn each_faulty_sheet_is_refused_at_its_place(rt: HostRuntime) -> Result<(), Fail> {
-    check_faults(&rt, &LINE_1)?;
-    check_faults(&rt, &OUTAGES)?;
-    check_faults(&rt, &WINDOWS_AND_COOL_DOWN)?;
-    check_faults(&rt, &TICKETS)
-}
-
-// How a sheet is refused: the number, and whether it has a place.
-fn refused(
-    text: &[u8],
-    outages: &mut [Outage],
-    windows: &mut [Window],
-    tickets: &mut [Ticket],
-) -> (u32, bool) {
-    match read_sheet(text, outages, windows, tickets) {
-        Ok(_) => (0, false),
-        Err(fault) => (fault.number(), fault.place().is_some()),
-    }
+fn each_faulty_sheet_is_refused_at_its_place(rt: HostRuntime) {
+    check_faults(&rt, &LINE_1);
+    check_faults(&rt, &OUTAGES);
+    check_faults(&rt, &WINDOWS_AND_COOL_DOWN);
+    check_faults(&rt, &TICKETS);
 }
 
 #[test]
 fn a_text_has_at_most_16384_bytes(rt: HostRuntime) {
-    let mut outages = [OUTAGE; 64];
-    let mut windows = [WINDOW; 8];
-    let mut tickets = [TICKET; 64];
+    let mut lists = Lists::new();
     let spaces = [b' '; 16385];
+    assert_eq!(rt; refused(lists.read(&spaces)), Some((14, None)));
+    let first = FaultPlace {
+        section: 0,
+        line: 1,
+        byte: 0,
+    };
     assert_eq!(rt;
-        refused(&spaces, &mut outages, &mut windows, &mut tickets),
-        (14, false)
-    );
-    assert_eq!(rt;
-        refused(&spaces[0..16384], &mut outages, &mut windows, &mut tickets),
-        (15, true)
+        refused(lists.read(&spaces[0..16384])),
+        Some((15, Some(first)))
     );
 }
 
 #[test]
 fn each_list_is_long_enough(rt: HostRuntime) {
-    let mut outages = [OUTAGE; 64];
-    let mut windows = [WINDOW; 8];
-    let mut tickets = [TICKET; 64];
+    let Lists {
+        mut outages,
+        mut windows,
+        mut tickets,
+    } = Lists::new();
     assert_eq!(rt;
-        refused(b"x", &mut [OUTAGE; 63], &mut windows, &mut tickets),
-        (8, false)
+        refused(read_sheet(b"x", &mut [OUTAGE; 63], &mut windows, &mut tickets)),
+        Some((8, None))
     );
     assert_eq!(rt;
-        refused(b"x", &mut outages, &mut [WINDOW; 7], &mut tickets),
-        (8, false)
+        refused(read_sheet(b"x", &mut outages, &mut [WINDOW; 7], &mut tickets)),
+        Some((8, None))
     );
     assert_eq!(rt;
-        refused(b"x", &mut outages, &mut windows, &mut [TICKET; 63]),
-        (8, false)
+        refused(read_sheet(b"x", &mut outages, &mut windows, &mut [TICKET; 63])),
+        Some((8, None))
     );
 }
 
@@ -120,16 +124,14 @@ const WORKED: &[u8] =
 
 #[test]
 fn a_sheet_is_read_and_written_again(rt: HostRuntime) -> Result<(), Fail> {
-    let mut outages = [OUTAGE; 64];
-    let mut windows = [WINDOW; 8];
-    let mut tickets = [TICKET; 64];
-    let Ok(head) = read_sheet(WORKED, &mut outages, &mut windows, &mut tickets) else {
+    let mut lists = Lists::new();
+    let Ok(head) = lists.read(WORKED) else {
         return Err(Fail::new("refused"));
     };
-    assert_eq!(rt; (head.extent.slots, head.extent.top), (6, 3));
-    assert!(rt; head.outages == 1 && head.windows == 1 && head.tickets == 4);
+    assert_eq!(rt; head.extent, Extent { slots: 6, top: 3 });
+    assert_eq!(rt; (head.outages, head.windows, head.tickets), (1, 1, 4));
     assert_eq!(rt;
-        outages[0],
+        lists.outages[0],
         Outage {
             core: 0,
             from: 2,
@@ -137,7 +139,7 @@ fn a_sheet_is_read_and_written_again(rt: HostRuntime) -> Result<(), Fail> {
         }
     );
     assert_eq!(rt;
-        tickets[3],
+        lists.tickets[3],
         Ticket {
             number: 6,
             arrival: 2,
@@ -146,7 +148,7 @@ fn a_sheet_is_read_and_written_again(rt: HostRuntime) -> Result<(), Fail> {
             bound: 2,
         }
     );
-    assert_eq!(rt; tickets[4], TICKET);
+    assert_eq!(rt; lists.tickets[4], TICKET);
     let mut out = [7u8; 80];
     let cool_down = [Schedule {
         period: 4,
@@ -155,10 +157,10 @@ fn a_sheet_is_read_and_written_again(rt: HostRuntime) -> Result<(), Fail> {
     }];
     let written = write_sheet(
         head.extent,
-        &outages[0..1],
-        &windows[0..1],
+        &lists.outages[0..1],
+        &lists.windows[0..1],
         &cool_down,
-        &tickets[0..4],
+        &lists.tickets[0..4],
         &mut out,
     );
     let Ok(length) = written else {
@@ -171,32 +173,12 @@ fn a_sheet_is_read_and_written_again(rt: HostRuntime) -> Result<(), Fail> {
 }
 
 #[test]
-fn each_faulty_script_is_refused_at_its_place(rt: HostRuntime) -> Result<(), Fail> {
+fn each_faulty_script_is_refused_at_its_place(rt: HostRuntime) {
     for faulty in &SCRIPTS {
-        match read_script(faulty.text, 4) {
-            Ok(_) => return Err(Fail::new("a faulty script is accepted")),
-            Err(fault) => {
-                assert_eq!(rt; fault.number(), faulty.number);
-                let place = FaultPlace {
-                    section: faulty.section,
-                    line: faulty.line,
-                    byte: faulty.byte,
-                };
-                assert_eq!(rt; fault.place(), Some(place));
-            }
-        }
-    }
-    Ok(())
-}
-
-// A letter and a number for each command.
-fn spelled(command: Option<Command>) -> (char, u32) {
-    match command {
-        Some(Command::Admit(ticket)) => ('A', ticket),
-        Some(Command::Withdraw(number)) => ('W', number),
-        Some(Command::Serve) => ('S', 0),
-        Some(Command::TakeBack) => ('T', 0),
-        None => ('.', 0),
+        assert_eq!(rt;
+            refused(read_script(faulty.text, 4)),
+            Some((faulty.number, Some(faulty.place)))
+        );
     }
 }
 
@@ -206,15 +188,15 @@ fn a_script_hands_out_its_commands(rt: HostRuntime) -> Result<(), Fail> {
         return Err(Fail::new("refused"));
     };
     for expected in [
-        ('A', 4),
-        ('W', 999999),
-        ('S', 0),
-        ('T', 0),
-        ('A', 1),
-        ('.', 0),
-        ('.', 0),
+        Some(Command::Admit(4)),
+        Some(Command::Withdraw(999999)),
+        Some(Command::Serve),
+        Some(Command::TakeBack),
+        Some(Command::Admit(1)),
+        None,
+        None,
     ] {
-        assert_eq!(rt; spelled(script.next()), expected);
+        assert_eq!(rt; script.next(), expected);
     }
     Ok(())
 }
@@ -224,13 +206,8 @@ fn an_empty_script_is_lawful_and_a_long_one_is_not(rt: HostRuntime) -> Result<()
     let Ok(mut script) = read_script(b"", 0) else {
         return Err(Fail::new("refused"));
     };
-    assert_eq!(rt; spelled(script.next()), ('.', 0));
+    assert_eq!(rt; script.next(), None);
     let long = [b'x'; 16385];
-    match read_script(&long, 4) {
-        Ok(_) => Err(Fail::new("accepted")),
-        Err(fault) => {
-            assert_eq!(rt; fault.number(), 14);
-            Ok(())
-        },
-    }
+    assert_eq!(rt; refused(read_script(&long, 4)), Some((14, None)));
+    Ok(())
 }

@@ -1,7 +1,5 @@
-use Rattle.std.proofs.Common.{subst}
-use Rattle.bank.specs.Meaning.{Meaning}
-use Rattle.bench_banks.specs.Bench.{Answers}
+use Rattle.std.proofs.Common.{rules, ap, ◌∙◌}
 use Rattle.bench_banks.proofs.pile_levels_each.Goals as goal
 
 pub returns : goal.returns
-returns c = subst (λ (m : Meaning). Answers (λ k. m.capacity k c.args.slot) 65 c.args.answers.now c.put_each.new.answers) c.full_pile.ensures c.put_each.ensures
+returns c = c.put_answers.ensures _ (λ k r few met. search rules ∙ ap (λ m. m.capacity k c.args.slot) c.full_pile-pile.ensures)

@@ -10,7 +10,7 @@ loop-lane-init g c = (omega arith, λ core h. refl)
 pub bounds-changed-core : goal.bounds-changed-core
 bounds-changed-core g c =
     let m = g.B.Bank.means c.args.cores.now in
-    core_below m (g.B.Bank.rules c.args.cores.now) c.args.slot c.loop-lane.lane c.in-Some.core
+    core_below m (g.met.B.Bank.rules c.args.cores.now) c.args.slot c.loop-lane.lane c.in-Some.core
     (top_core m c.args.slot c.top-top.result c.loop-lane.lane c.core.result c.top-top.ensures c.core.ensures ∙ c.in-Some.is)
 
 pub loop-lane-preserved : goal.loop-lane-preserved
@@ -21,7 +21,7 @@ loop-lane-preserved g c =
     elim c.match-core.branch [
       | in-Some w ↦
           let core_is = at_top ∙ w.in-Some.is in
-          let small = core_below m (g.B.Bank.rules c.args.cores.now) c.args.slot lane w.in-Some.core core_is in
+          let small = core_below m (g.met.B.Bank.rules c.args.cores.now) c.args.slot lane w.in-Some.core core_is in
           moved (sym w.changed-is) (changed_more m c.args.slot c.args.state c.args.states lane w.in-Some.core c.loop-lane.changed core_is small c.loop-lane.invariant)
       | in_default w ↦ moved (sym w.changed-is) (changed_none m c.args.slot c.args.state c.args.states lane c.loop-lane.changed (at_top ∙ w.in_default.is) c.loop-lane.invariant)
     ]
