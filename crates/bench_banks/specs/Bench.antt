@@ -5,12 +5,8 @@ use Rattle.bank.specs.Meaning.{Meaning}
 use Rattle.calendar.specs.Calendar.{calendar}
 use Rattle.calendar.specs.declared.Outage.{Outage}
 use Rattle.cooldown.specs.Cooldown.{cool_down}
-use Rattle.reserve.specs.Reserve.{reserve}
+use Rattle.reserve.specs.Reserve.{reserve, window_row}
 use Rattle.reserve.specs.declared.Window.{Window}
-
--- also in the specs of the worked examples: neither crate stands on the other
-abbrev window_row : ℕ → ℕ → ℕ → Window
-window_row from to count = record { from = from; to = to; count = count }
 
 abbrev pub eight_windows : List Window
 eight_windows =

@@ -4,16 +4,12 @@ use Rattle.calendar.specs.Calendar.{calendar}
 use Rattle.cooldown.specs.Cooldown.{cool_down}
 use Rattle.bank.specs.Even.{even}
 use Rattle.bank.specs.Meaning.{Meaning, mark_after}
-use Rattle.reserve.specs.Reserve.{reserve}
+use Rattle.reserve.specs.Reserve.{reserve, window_row}
 use Rattle.calendar.specs.declared.Outage.{Outage}
 use Rattle.reserve.specs.declared.Window.{Window}
 
 abbrev pub outage_row : ℕ → ℕ → ℕ → Outage
 outage_row core from to = record { core = core; from = from; to = to }
-
--- also in the specs of the benchmark's banks: neither crate stands on the other
-abbrev pub window_row : ℕ → ℕ → ℕ → Window
-window_row from to count = record { from = from; to = to; count = count }
 
 -- the marks are just these two, and each comes first after the one before
 abbrev pub MarksAre : Meaning → ℕ → ℕ → Type 0

@@ -6,6 +6,10 @@ use Rattle.bank.specs.Layer.{layer, left_by}
 use Rattle.bank.specs.Meaning.{Meaning}
 use Rattle.reserve.specs.declared.Window.{Window}
 
+-- a window by its numbers
+abbrev pub window_row : ℕ → ℕ → ℕ → Window
+window_row from to count = record { from = from; to = to; count = count }
+
 -- a window's numbers are in their limits
 abbrev pub window_fits : Window → Bool
 window_fits w = (nat_le w.from 4096 && nat_le w.to 4096) && nat_le w.count 64

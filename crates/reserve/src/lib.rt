@@ -141,6 +141,7 @@ impl<B: Bank> HostReserve<B> {
         ensures answer { refusal_of result ≡ (if settable place window then None else Some 16) }
         ensures windows { self.new.table.rows ≡ with_window self.old.table.rows place window }
         ensures below { self.new.below ≡ self.old.below }
+        ensures meaning { ⟦<HostReserve<B> as Bank>⟧.means self.new ≡ reserve (with_window self.old.table.rows place window) (B.means self.old.below) }
         ensures refused { settable place window ≡ false → self.new ≡ self.old }
     {
         self.table.set(place, window)
