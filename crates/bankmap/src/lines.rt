@@ -88,7 +88,7 @@ impl fmt::Display for Printable<'_> {
             } else {
                 '?'
             };
-            write!(f, "{shown}")?;
+            f.write_char(shown)?;
         }
         Ok(())
     }

@@ -2,7 +2,7 @@
 #![tactic(auto)]
 
 use crate::lines::{CoolDownLine, OutageLine, RefusedSheet, WindowLine};
-use crate::site::{NoSite, Site};
+use crate::site::Site;
 use crate::survey::Spans;
 use bank::Bank;
 use calendar::Calendar;
@@ -70,12 +70,12 @@ fn sheet_path(rt: &HostRuntime) -> anyhow::Result<String> {
 fn run(rt: &HostRuntime) -> anyhow::Result<ExitCode> {
     let path = sheet_path(rt)?;
     let text = fs::read(rt, path.as_str())?;
-    match Site::read(rt.alloc(), &text) {
+    match Site::read(&text) {
         Ok(site) => {
             print_site(rt, &site)?;
             Ok(ExitCode::SUCCESS)
         }
-        Err(NoSite::Refused(fault)) => {
+        Err(fault) => {
             let refused = RefusedSheet {
                 text: &text,
                 fault: &fault,
@@ -83,7 +83,6 @@ fn run(rt: &HostRuntime) -> anyhow::Result<ExitCode> {
             println!(rt; "{refused}")?;
             Ok(ExitCode::FAILURE)
         }
-        Err(NoSite::OutOfMemory(error)) => Err(error.into()),
     }
 }
 
