@@ -1,7 +1,7 @@
 -- The cool-down: a layer that limits the usable cores at the end of each period.
-use Rattle.std.specs.Prelude.{ℕ, ◌-◌, ◌%◌, min, Bool, cond, ◌&&◌, ◌||◌, ◌==◌, nat_le, nat_lt}
+use Rattle.std.specs.Prelude.{ℕ, ◌-◌, ◌%◌, ◌<◌, min, Bool, cond, ◌&&◌, ◌||◌, ◌==◌, nat_le, nat_lt}
 use Rattle.bank.specs.Layer.{layer, left_by}
-use Rattle.bank.specs.Meaning.{Meaning}
+use Rattle.bank.specs.Meaning.{Meaning, Rules}
 
 -- slot t lies among the last slots of its period, as many as the rest
 abbrev pub resting : ℕ → ℕ → ℕ → Bool
@@ -20,3 +20,7 @@ rested period rest limit m = left_by m (left_of period rest limit)
 
 abbrev pub cool_down : ℕ → ℕ → ℕ → Meaning → Meaning
 cool_down period rest limit m = layer m (rested period rest limit m) (rest_edge period rest)
+
+-- over any bank that keeps the rules, a cool-down with any rest and limit, and a period above 0, keeps them
+abbrev pub CoolDownRules : Type 0
+CoolDownRules = (period rest limit : ℕ) (m : Meaning) → 0 < period → Rules m → Rules (cool_down period rest limit m)

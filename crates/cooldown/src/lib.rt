@@ -2,7 +2,7 @@
 #![tactic(auto)]
 
 ghost use Rattle.std.specs.Prelude.{◌≡◌, ◌%◌, ◌<◌, ◌≤◌, ◌&&◌, if◌then◌else◌, Some, None, ◌==◌};
-ghost use Rattle.cooldown.specs.Cooldown.{cool_down, left_of, rest_edge, resting};
+ghost use Rattle.cooldown.specs.Cooldown.{CoolDownRules, cool_down, left_of, rest_edge, resting};
 ghost use Rattle.bank.specs.First.{first_above};
 ghost use Rattle.cooldown.specs.Laws.Cooldowns.{left_below, left_rises, left_stays};
 ghost use Rattle.bank.specs.Limits.{in_limits, nearest};
@@ -97,10 +97,12 @@ pub struct CoolDown<B> {
 }
 
 impl<B: Bank> CoolDown<B> {
-    // A number outside its limits is taken as the nearest limit.
+    // A number outside its limits is taken as the nearest limit. With any schedule of a period above 0, over any bank that
+    // keeps the rules, a cool-down keeps them.
     pub fn new(below: B, schedule: Schedule) -> CoolDown<B>
         ensures below { result.below ≡ below }
         ensures meaning { ⟦<CoolDown<B> as Bank>⟧.means result ≡ cool_down (nearest 1 4096 schedule.period) (nearest 0 4096 schedule.rest) (nearest 0 64 schedule.limit) (B.means below) }
+        ensures rules { CoolDownRules }
     {
         CoolDown {
             below,

@@ -3,7 +3,7 @@ use Rattle.std.specs.Prelude.{ℕ, ◌-◌, min, Bool, cond, ◌&&◌, List, sum
 use Rattle.bank.specs.Interval.{within, edge_of}
 use Rattle.std.specs.List.{list_any, list_all}
 use Rattle.bank.specs.Layer.{layer, left_by}
-use Rattle.bank.specs.Meaning.{Meaning}
+use Rattle.bank.specs.Meaning.{Meaning, Rules}
 use Rattle.reserve.specs.declared.Window.{Window}
 
 -- a window by its numbers
@@ -45,3 +45,7 @@ left_of ws t n = n - withheld ws t
 
 abbrev pub reserve : List Window → Meaning → Meaning
 reserve ws m = layer m (left_by m (left_of ws)) (λ t. list_any (window_edge t) ws)
+
+-- over any bank that keeps the rules, a reserve with any windows keeps them
+abbrev pub ReserveRules : Type 0
+ReserveRules = (ws : List Window) (m : Meaning) → Rules m → Rules (reserve ws m)

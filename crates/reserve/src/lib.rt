@@ -1,11 +1,11 @@
 // The host reserve: a layer that withholds cores of the bank below while its windows are in force.
 #![tactic(auto)]
 
-ghost use Rattle.std.specs.Prelude.{◌≡◌, false, map, if◌then◌else◌, Some, None};
+ghost use Rattle.std.specs.Prelude.{◌≡◌, ◌≤◌, false, map, if◌then◌else◌, Some, None};
 ghost use Rattle.std.specs.List.{list_any};
 ghost use Rattle.reserve.specs.Laws.Reserves.{left_below, left_rises, left_stays};
 ghost use Rattle.bank.specs.Refusals.{refusal_of};
-ghost use Rattle.reserve.specs.Reserve.{clamped, held, left_of, reserve, settable, table_fits, window_edge, window_fits, with_window, withheld};
+ghost use Rattle.reserve.specs.Reserve.{ReserveRules, clamped, held, left_of, reserve, settable, table_fits, window_edge, window_fits, with_window, withheld};
 
 use crate::table::WindowTable;
 use bank::Bank;
@@ -106,7 +106,8 @@ impl WindowTable {
 
     // The number of cores withheld in a slot: the sum over the eight windows.
     fn withheld(&self, slot: u32) -> u32
-        ensures { result ≡ withheld self.now.rows slot }
+        ensures value { result ≡ withheld self.now.rows slot }
+        ensures bound { result ≤ 512 }
     {
         let mut sum = 0;
         for w in &self.rows {
@@ -123,11 +124,13 @@ pub struct HostReserve<B> {
 }
 
 impl<B: Bank> HostReserve<B> {
-    // A number outside its limits is taken as the nearest limit.
+    // A number outside its limits is taken as the nearest limit. With any windows, over any bank that keeps the rules, a
+    // reserve keeps them.
     pub fn new(below: B, windows: [Window; 8]) -> HostReserve<B>
         ensures below { result.below ≡ below }
         ensures windows { result.table.rows ≡ map clamped windows }
         ensures meaning { ⟦<HostReserve<B> as Bank>⟧.means result ≡ reserve (map clamped windows) (B.means below) }
+        ensures rules { ReserveRules }
     {
         HostReserve {
             below,

@@ -19,7 +19,7 @@ loop-w-preserved c =
     let more = sum_by_more (held c.args.slot) c.args.self.now.rows c.loop-w.w-index none (omega arith) in
     (omega arith, omega arith)
 
-pub returns : goal.returns
-returns c =
+pub returns-clause-value : goal.returns-clause-value
+returns-clause-value c =
     let all = take_all c.loop-w.w-index c.args.self.now.rows (omega arith) in
     c.loop-w.invariant.0 ∙ ap (λ ws. withheld ws c.args.slot) all
