@@ -88,7 +88,7 @@ impl fmt::Display for Printable<'_> {
             } else {
                 '?'
             };
-            f.write_char(shown)?;
+            write!(f, "{shown}")?;
         }
         Ok(())
     }

@@ -10,7 +10,7 @@ use text::ReadFault;
 #[derive(Drop)]
 pub(crate) struct Site {
     pub extent: Extent,
-    // A vector of fixed capacity, so that reading a sheet cannot run out of memory.
+    // A vector of fixed capacity, so that a sheet's text is read without the heap.
     pub outages: ArrayVec<Outage, 64>,
     // All eight, as the reserve takes them (it has fixed memory): those that the sheet does not have are all 0.
     pub windows: [Window; 8],

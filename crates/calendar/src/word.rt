@@ -18,7 +18,7 @@ impl CoresOut {
     }
 
     // Whether a core is out.
-    fn is_out(self, core: u32) -> bool
+    pub(crate) fn is_out(self, core: u32) -> bool
         requires { core < 64 }
         ensures { result ≡ bit self.word core }
     {
@@ -26,7 +26,7 @@ impl CoresOut {
     }
 
     // The counts of usable cores below each level up to the top, and 0 above it. One count grows from core to core: a count of
-    // each level's own, by `array::from_fn`, takes up to three times as long.
+    // each level's own, by `array::from_fn`, takes up to 2.6 times as long.
     pub(crate) fn counts(self, top: u32) -> [u32; 65]
         ensures { result ≡ map (λ k. (if nat_le k top then length (usable (bit self.word) k) else 0)) (range_with_len 0 65) }
     {

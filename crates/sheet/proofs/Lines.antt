@@ -25,7 +25,7 @@ pub field_takes : (l : Limits) (close byte : ℕ) (bs : List ℕ) (f : Field) �
 field_takes l close byte bs f e = let w = number_written bs f (judged_ok l close byte (numeral 0 0 bs) f e).0 in omega (arith, w.long)
 
 -- what an element past a table's end reads as
-abbrev unlisted : Limits
+abbrev pub unlisted : Limits
 unlisted = record { low = 0; high = 0; refusal = SlotOpen }
 
 -- a line that begins the bytes `start`, after j of its n fields
