@@ -97,6 +97,7 @@ fn shown(part: &[u8]) -> [u8; PART] {
 impl fmt::Display for Printable<'_> {
     fn fmt<W: fmt::Write>(&self, f: &mut fmt::Formatter<W>) -> fmt::Result {
         for part in self.0.chunks(PART) {
+            // At most PART bytes, all of ASCII: nothing is cut off, and no error comes.
             let bytes = shown(part);
             let text = str::from_utf8(&bytes[..part.len().min(PART)]).map_err(|_| fmt::Error)?;
             f.write_str(text)?;
